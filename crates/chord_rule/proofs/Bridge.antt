@@ -15,9 +15,11 @@ use Rattle.chord_word.proofs.Packing.{same_word, same_link}
 use Rattle.chord_word.specs.declared.cells.Word.{Word}
 use Rattle.chord_word.specs.Cells.{word_of, link_of, WordFits}
 use Rattle.chord_rule.specs.declared.view.View.{View}
-use Rattle.chord_rule.specs.Moment.{Moment, Shows, head_at, Home, Place, word_at_place, PlaceOk, LinkOk}
+use Rattle.chord_rule.specs.Layout.{spread, breadth_for, cell_at, place_at, head_at}
+use Rattle.chord_rule.specs.Moment.{Moment, Shows, Home, Place, word_at_place, PlaceOk, LinkOk}
 use Rattle.chord_rule.specs.Held.{HeldBy}
 use Rattle.chord_rule.proofs.Puts.{put, put_here, put_else, put_all}
+use Rattle.chord_rule.proofs.Spreading.{spread_inside, spread_one}
 
 -- a place in rows of one width is of one row, and of one place in it
 one_row : (width o j q i : ℕ) → j < width → i < width → o * width + j ≡ q * width + i → (o ≡ q) × (j ≡ i)
@@ -86,25 +88,25 @@ module _ {P : Type 0} where
     wide = length-set s.words 0 x ∙ k.wide;
     deep = h.0;
     count = get_or-set_same s.words 0 x 0 (omega arith);
-    cells = λ i l. (get_or-set_other s.words 0 (1 + i) x 0 (omega arith) ∙ (k.cells i l).0, (k.cells i l).1);
+    cells = λ i l. (get_or-set_other s.words 0 (cell_at i) x 0 (omega arith) ∙ (k.cells i l).0, (k.cells i l).1);
     heads = λ o j low few. (get_or-set_other s.words 0 (head_at n width o j) x 0 (omega arith) ∙ (k.heads o j low few).0, (k.heads o j low few).1);
-    places = λ i l. (get_or-set_other s.words 0 (1 + n + i) x 0 (omega arith) ∙ (k.places i l).0, (k.places i l).1);
+    places = λ i l. (get_or-set_other s.words 0 (place_at n i) x 0 (omega arith) ∙ (k.places i l).0, (k.places i l).1);
     homes = h.1;
     views = ap (λ (vs : List View). set vs id w) k.views;
   }
 
   -- a table with another cell shows the moment with that cell
   shows_cell : (n width : ℕ) (m : Moment P) (s : State (Option P) View) (i id : ℕ) (x : Word) (c : List (ℕ × Option P)) (w : View) (a : Act (Option P)) → i < n → WordFits x → Shows n width m s
-      → Shows n width (record m { cells = put m.cells i x; homes = after_act m.homes c a; views = set m.views id w }) (stepped s (1 + i) (word_of x) id c w a)
-  shows_cell n width m s i id x c w a low fits k = let h = shown_after n s.homes m.homes c a (k.deep, k.homes) in let wide = k.wide in record {
-    wide = length-set s.words (1 + i) (word_of x) ∙ k.wide;
+      → Shows n width (record m { cells = put m.cells i x; homes = after_act m.homes c a; views = set m.views id w }) (stepped s (cell_at i) (word_of x) id c w a)
+  shows_cell n width m s i id x c w a low fits k = let h = shown_after n s.homes m.homes c a (k.deep, k.homes) in let wide = k.wide in let inside = spread_inside n i low in record {
+    wide = length-set s.words (cell_at i) (word_of x) ∙ k.wide;
     deep = h.0;
-    count = get_or-set_other s.words (1 + i) 0 (word_of x) 0 (omega arith) ∙ k.count;
-    cells = λ j l. put_all m.cells i x (λ j y. (get_or (set s.words (1 + i) (word_of x)) (1 + j) 0 ≡ word_of y) × WordFits y) j
-        (get_or-set_same s.words (1 + i) (word_of x) 0 (omega arith), fits)
-        (λ ne. (get_or-set_other s.words (1 + i) (1 + j) (word_of x) 0 (λ e. ne (omega arith)) ∙ (k.cells j l).0, (k.cells j l).1));
-    heads = λ o j below few. (get_or-set_other s.words (1 + i) (head_at n width o j) (word_of x) 0 (omega arith) ∙ (k.heads o j below few).0, (k.heads o j below few).1);
-    places = λ j l. (get_or-set_other s.words (1 + i) (1 + n + j) (word_of x) 0 (omega arith) ∙ (k.places j l).0, (k.places j l).1);
+    count = get_or-set_other s.words (cell_at i) 0 (word_of x) 0 (omega arith) ∙ k.count;
+    cells = λ j l. put_all m.cells i x (λ j y. (get_or (set s.words (cell_at i) (word_of x)) (cell_at j) 0 ≡ word_of y) × WordFits y) j
+        (get_or-set_same s.words (cell_at i) (word_of x) 0 (omega (arith, wide, inside)), fits)
+        (λ ne. (get_or-set_other s.words (cell_at i) (cell_at j) (word_of x) 0 (λ e. ne (spread_one j i (omega arith))) ∙ (k.cells j l).0, (k.cells j l).1));
+    heads = λ o j below few. (get_or-set_other s.words (cell_at i) (head_at n width o j) (word_of x) 0 (omega (arith, inside)) ∙ (k.heads o j below few).0, (k.heads o j below few).1);
+    places = λ j l. (get_or-set_other s.words (cell_at i) (place_at n j) (word_of x) 0 (omega (arith, inside)) ∙ (k.places j l).0, (k.places j l).1);
     homes = h.1;
     views = ap (λ (vs : List View). set vs id w) k.views;
   }
@@ -112,37 +114,37 @@ module _ {P : Type 0} where
   -- a table with another head shows the moment with that head
   shows_head : (n width : ℕ) (m : Moment P) (s : State (Option P) View) (o j number id : ℕ) (x : Option ℕ) (c : List (ℕ × Option P)) (w : View) (a : Act (Option P)) → o < n → j < width → width ≤ 16 → number ≡ 16 * o + j → LinkOk x → Shows n width m s
       → Shows n width (record m { heads = put m.heads number x; homes = after_act m.homes c a; views = set m.views id w }) (stepped s (head_at n width o j) (link_of x) id c w a)
-  shows_head n width m s o j number id x c w a low few most numbered fits k = let h = shown_after n s.homes m.homes c a (k.deep, k.homes) in let wide = k.wide in let at : ℕ = head_at n width o j in let inside = mul-add-lt o width j n low few in record {
+  shows_head n width m s o j number id x c w a low few most numbered fits k = let h = shown_after n s.homes m.homes c a (k.deep, k.homes) in let wide = k.wide in let at : ℕ = head_at n width o j in let inside = mul-add-lt (spread o) width j (breadth_for n) (spread_inside n o low) few in record {
     wide = length-set s.words at (link_of x) ∙ k.wide;
     deep = h.0;
     count = get_or-set_other s.words at 0 (link_of x) 0 (omega arith) ∙ k.count;
-    cells = λ i l. (get_or-set_other s.words at (1 + i) (link_of x) 0 (omega arith) ∙ (k.cells i l).0, (k.cells i l).1);
+    cells = λ i l. (get_or-set_other s.words at (cell_at i) (link_of x) 0 (let near = spread_inside n i l in omega (arith, near)) ∙ (k.cells i l).0, (k.cells i l).1);
     heads = λ q i below within. put_all m.heads number x (λ z y. z ≡ 16 * q + i → (get_or (set s.words at (link_of x)) (head_at n width q i) 0 ≡ link_of y) × LinkOk y) (16 * q + i)
         (λ same. let of : o ≡ q = omega arith in let by : j ≡ i = omega arith in (
           ap (λ (z : ℕ × ℕ). get_or (set s.words at (link_of x)) (head_at n width z.0 z.1) 0) (λ b. (sym of b, sym by b)) ∙ get_or-set_same s.words at (link_of x) 0 (omega (arith, wide, inside)),
           fits,
         ))
         (λ ne same. (
-          get_or-set_other s.words at (head_at n width q i) (link_of x) 0 (λ e. let both = one_row width o j q i few within (omega arith) in let of = both.0 in let by = both.1 in ne (omega arith)) ∙ (k.heads q i below within).0,
+          get_or-set_other s.words at (head_at n width q i) (link_of x) 0 (λ e. let both = one_row width (spread o) j (spread q) i few within (omega arith) in let of = spread_one o q both.0 in let by = both.1 in ne (omega arith)) ∙ (k.heads q i below within).0,
           (k.heads q i below within).1,
         )) refl;
-    places = λ i l. (get_or-set_other s.words at (1 + n + i) (link_of x) 0 (omega arith) ∙ (k.places i l).0, (k.places i l).1);
+    places = λ i l. (get_or-set_other s.words at (place_at n i) (link_of x) 0 (let near = spread_inside n i l in omega (arith, near)) ∙ (k.places i l).0, (k.places i l).1);
     homes = h.1;
     views = ap (λ (vs : List View). set vs id w) k.views;
   }
 
   -- a table with another place word shows the moment with that place
   shows_place : (n width : ℕ) (m : Moment P) (s : State (Option P) View) (i id : ℕ) (x : Option Place) (c : List (ℕ × Option P)) (w : View) (a : Act (Option P)) → i < n → PlaceOk x → Shows n width m s
-      → Shows n width (record m { places = put m.places i x; homes = after_act m.homes c a; views = set m.views id w }) (stepped s (1 + n + i) (word_at_place x) id c w a)
-  shows_place n width m s i id x c w a low fits k = let h = shown_after n s.homes m.homes c a (k.deep, k.homes) in let wide = k.wide in record {
-    wide = length-set s.words (1 + n + i) (word_at_place x) ∙ k.wide;
+      → Shows n width (record m { places = put m.places i x; homes = after_act m.homes c a; views = set m.views id w }) (stepped s (place_at n i) (word_at_place x) id c w a)
+  shows_place n width m s i id x c w a low fits k = let h = shown_after n s.homes m.homes c a (k.deep, k.homes) in let wide = k.wide in let inside = spread_inside n i low in record {
+    wide = length-set s.words (place_at n i) (word_at_place x) ∙ k.wide;
     deep = h.0;
-    count = get_or-set_other s.words (1 + n + i) 0 (word_at_place x) 0 (omega arith) ∙ k.count;
-    cells = λ j l. (get_or-set_other s.words (1 + n + i) (1 + j) (word_at_place x) 0 (omega arith) ∙ (k.cells j l).0, (k.cells j l).1);
-    heads = λ o j below few. (get_or-set_other s.words (1 + n + i) (head_at n width o j) (word_at_place x) 0 (omega arith) ∙ (k.heads o j below few).0, (k.heads o j below few).1);
-    places = λ j l. put_all m.places i x (λ j y. (get_or (set s.words (1 + n + i) (word_at_place x)) (1 + n + j) 0 ≡ word_at_place y) × PlaceOk y) j
-        (get_or-set_same s.words (1 + n + i) (word_at_place x) 0 (omega arith), fits)
-        (λ ne. (get_or-set_other s.words (1 + n + i) (1 + n + j) (word_at_place x) 0 (λ e. ne (omega arith)) ∙ (k.places j l).0, (k.places j l).1));
+    count = get_or-set_other s.words (place_at n i) 0 (word_at_place x) 0 (omega arith) ∙ k.count;
+    cells = λ j l. (get_or-set_other s.words (place_at n i) (cell_at j) (word_at_place x) 0 (let near = spread_inside n j l in omega (arith, near)) ∙ (k.cells j l).0, (k.cells j l).1);
+    heads = λ o j below few. (get_or-set_other s.words (place_at n i) (head_at n width o j) (word_at_place x) 0 (omega (arith, inside)) ∙ (k.heads o j below few).0, (k.heads o j below few).1);
+    places = λ j l. put_all m.places i x (λ j y. (get_or (set s.words (place_at n i) (word_at_place x)) (place_at n j) 0 ≡ word_at_place y) × PlaceOk y) j
+        (get_or-set_same s.words (place_at n i) (word_at_place x) 0 (omega (arith, wide, inside)), fits)
+        (λ ne. (get_or-set_other s.words (place_at n i) (place_at n j) (word_at_place x) 0 (λ e. ne (spread_one j i (omega arith))) ∙ (k.places j l).0, (k.places j l).1));
     homes = h.1;
     views = ap (λ (vs : List View). set vs id w) k.views;
   }
@@ -195,7 +197,7 @@ module _ {P : Type 0} where
     pub store_cell : (id : ℕ) (me : Me (Option P) View) (i : ℕ) (x : Word) (then : Me (Option P) View → Type 0) → i < n
         → ((m : Moment P) (g : G) → R m g → get_elem? m.views id ≡ some me.0 → WordFits (m.cells i)
         → WordFits x × Goes m me (λ w a. record m { cells = put m.cells i x; homes = after_act m.homes me.1 a; views = set m.views id w }) (λ w a. then (w, carried_after me.1 a)))
-        → Allows (HeldBy G R n width) n id me (1 + i) (λ _. word_of x) (λ _. then)
+        → Allows (HeldBy G R n width) n id me (cell_at i) (λ _. word_of x) (λ _. then)
     store_cell id me i x then low k s h deep at word = let sh = h.shows in let m = h.moment in let kr = k m h.ghosts h.rule (found m s id me.0 sh at) (sh.cells i low).1 in let fits = kr.0 in let r = kr.1 in (
       r.0,
       r.1,
@@ -226,7 +228,7 @@ module _ {P : Type 0} where
     pub store_place : (id : ℕ) (me : Me (Option P) View) (i : ℕ) (x : Option Place) (then : Me (Option P) View → Type 0) → i < n → PlaceOk x
         → ((m : Moment P) (g : G) → R m g → get_elem? m.views id ≡ some me.0
         → Goes m me (λ w a. record m { places = put m.places i x; homes = after_act m.homes me.1 a; views = set m.views id w }) (λ w a. then (w, carried_after me.1 a)))
-        → Allows (HeldBy G R n width) n id me (1 + n + i) (λ _. word_at_place x) (λ _. then)
+        → Allows (HeldBy G R n width) n id me (place_at n i) (λ _. word_at_place x) (λ _. then)
     store_place id me i x then low fits k s h deep at word = let sh = h.shows in let m = h.moment in let r = k m h.ghosts h.rule (found m s id me.0 sh at) in (
       r.0,
       r.1,
@@ -239,12 +241,12 @@ module _ {P : Type 0} where
     pub load_cell : (id : ℕ) (me : Me (Option P) View) (i : ℕ) (then : ℕ → Me (Option P) View → Type 0) → i < n
         → ((m : Moment P) (g : G) → R m g → get_elem? m.views id ≡ some me.0 → WordFits (m.cells i)
         → Goes m me (λ w a. record m { homes = after_act m.homes me.1 a; views = set m.views id w }) (λ w a. then (word_of (m.cells i)) (w, carried_after me.1 a)))
-        → Allows (HeldBy G R n width) n id me (1 + i) (λ x. x) then
+        → Allows (HeldBy G R n width) n id me (cell_at i) (λ x. x) then
     load_cell id me i then low k s h deep at word = let sh = h.shows in let m = h.moment in let r = k m h.ghosts h.rule (found m s id me.0 sh at) (sh.cells i low).1 in (
       r.0,
       r.1,
       valid_after n s.homes m.homes me.1 r.1 (sh.deep, sh.homes) r.3,
-      record { moment = record m { homes = after_act m.homes me.1 r.1; views = set m.views id r.0 }; ghosts = r.2; shows = shows_look n width m s (1 + i) id me.1 r.0 r.1 sh; rule = r.4 },
+      record { moment = record m { homes = after_act m.homes me.1 r.1; views = set m.views id r.0 }; ghosts = r.2; shows = shows_look n width m s (cell_at i) id me.1 r.0 r.1 sh; rule = r.4 },
       subst (λ (y : ℕ). then y (r.0, carried_after me.1 r.1)) (sym (sh.cells i low).0) r.5,
     )
 
@@ -254,7 +256,7 @@ module _ {P : Type 0} where
         → Goes m me (λ w a. record m { cells = put m.cells i y; homes = after_act m.homes me.1 a; views = set m.views id w }) (λ w a. then (word_of x) (w, carried_after me.1 a)))
         → ((m : Moment P) (g : G) → R m g → get_elem? m.views id ≡ some me.0 → WordFits (m.cells i) → word_of (m.cells i) ≢ word_of x
         → Goes m me (λ w a. record m { homes = after_act m.homes me.1 a; views = set m.views id w }) (λ w a. then (word_of (m.cells i)) (w, carried_after me.1 a)))
-        → Allows (HeldBy G R n width) n id me (1 + i) (λ z. either (eqb z (word_of x)) (word_of y) z) then
+        → Allows (HeldBy G R n width) n id me (cell_at i) (λ z. either (eqb z (word_of x)) (word_of y) z) then
     exchange_cell id me i x y then low xfits yfits hit miss s h deep at word = let sh = h.shows in let m = h.moment in let c = sh.cells i low in let at' = found m s id me.0 sh at in dite (ℕ_discrete (word_of (m.cells i)) (word_of x))
         (λ e. let r = hit m h.ghosts h.rule at' (same_word (m.cells i) x c.1 xfits e) in (
           r.0,
@@ -263,8 +265,8 @@ module _ {P : Type 0} where
           record {
             moment = record m { cells = put m.cells i y; homes = after_act m.homes me.1 r.1; views = set m.views id r.0 };
             ghosts = r.2;
-            shows = subst (λ (z : ℕ). Shows n width (record m { cells = put m.cells i y; homes = after_act m.homes me.1 r.1; views = set m.views id r.0 }) (stepped s (1 + i) z id me.1 r.0 r.1))
-                (ap (λ (b : Bool). either b (word_of y) (get_or s.words (1 + i) 0)) (sym (eq-eqb (get_or s.words (1 + i) 0) (word_of x) (c.0 ∙ e)))) (shows_cell n width m s i id y me.1 r.0 r.1 low yfits sh);
+            shows = subst (λ (z : ℕ). Shows n width (record m { cells = put m.cells i y; homes = after_act m.homes me.1 r.1; views = set m.views id r.0 }) (stepped s (cell_at i) z id me.1 r.0 r.1))
+                (ap (λ (b : Bool). either b (word_of y) (get_or s.words (cell_at i) 0)) (sym (eq-eqb (get_or s.words (cell_at i) 0) (word_of x) (c.0 ∙ e)))) (shows_cell n width m s i id y me.1 r.0 r.1 low yfits sh);
             rule = r.4;
           },
           subst (λ (z : ℕ). then z (r.0, carried_after me.1 r.1)) (sym (c.0 ∙ e)) r.5,
@@ -276,8 +278,8 @@ module _ {P : Type 0} where
           record {
             moment = record m { homes = after_act m.homes me.1 r.1; views = set m.views id r.0 };
             ghosts = r.2;
-            shows = subst (λ (z : ℕ). Shows n width (record m { homes = after_act m.homes me.1 r.1; views = set m.views id r.0 }) (stepped s (1 + i) z id me.1 r.0 r.1))
-                (ap (λ (b : Bool). either b (word_of y) (get_or s.words (1 + i) 0)) (sym (ne_eqb (get_or s.words (1 + i) 0) (word_of x) (λ q. ne (sym c.0 ∙ q))))) (shows_look n width m s (1 + i) id me.1 r.0 r.1 sh);
+            shows = subst (λ (z : ℕ). Shows n width (record m { homes = after_act m.homes me.1 r.1; views = set m.views id r.0 }) (stepped s (cell_at i) z id me.1 r.0 r.1))
+                (ap (λ (b : Bool). either b (word_of y) (get_or s.words (cell_at i) 0)) (sym (ne_eqb (get_or s.words (cell_at i) 0) (word_of x) (λ q. ne (sym c.0 ∙ q))))) (shows_look n width m s (cell_at i) id me.1 r.0 r.1 sh);
             rule = r.4;
           },
           subst (λ (z : ℕ). then z (r.0, carried_after me.1 r.1)) (sym c.0) r.5,
@@ -335,11 +337,11 @@ module _ {P : Type 0} where
     pub load_place : (id : ℕ) (me : Me (Option P) View) (i : ℕ) (then : ℕ → Me (Option P) View → Type 0) → i < n
         → ((m : Moment P) (g : G) → R m g → get_elem? m.views id ≡ some me.0 → PlaceOk (m.places i)
         → Goes m me (λ w a. record m { homes = after_act m.homes me.1 a; views = set m.views id w }) (λ w a. then (word_at_place (m.places i)) (w, carried_after me.1 a)))
-        → Allows (HeldBy G R n width) n id me (1 + n + i) (λ x. x) then
+        → Allows (HeldBy G R n width) n id me (place_at n i) (λ x. x) then
     load_place id me i then low k s h deep at word = let sh = h.shows in let m = h.moment in let r = k m h.ghosts h.rule (found m s id me.0 sh at) (sh.places i low).1 in (
       r.0,
       r.1,
       valid_after n s.homes m.homes me.1 r.1 (sh.deep, sh.homes) r.3,
-      record { moment = record m { homes = after_act m.homes me.1 r.1; views = set m.views id r.0 }; ghosts = r.2; shows = shows_look n width m s (1 + n + i) id me.1 r.0 r.1 sh; rule = r.4 },
+      record { moment = record m { homes = after_act m.homes me.1 r.1; views = set m.views id r.0 }; ghosts = r.2; shows = shows_look n width m s (place_at n i) id me.1 r.0 r.1 sh; rule = r.4 },
       subst (λ (y : ℕ). then y (r.0, carried_after me.1 r.1)) (sym (sh.places i low).0) r.5,
     )

@@ -11,7 +11,8 @@ use Rattle.chord_word.proofs.Packing.{same_link}
 use Rattle.chord_word.specs.declared.cells.Cell.TheVariants as a_cell
 use Rattle.chord_word.specs.Cells.{word_of, link_of, NextFits}
 use Rattle.chord_rule.specs.declared.view.View.{View}
-use Rattle.chord_rule.specs.Moment.{Moment, LinkOk, head_at}
+use Rattle.chord_rule.specs.Layout.{cell_at, head_at}
+use Rattle.chord_rule.specs.Moment.{Moment, LinkOk}
 use Rattle.chord_rule.specs.Bags.{head_number}
 use Rattle.chord_rule.specs.Kinds.{saw, saw_head}
 use Rattle.chord_rule.specs.Made.{key}
@@ -23,6 +24,7 @@ use Rattle.chord_rule.proofs.Bridge.{exchange_cell, exchange_head}
 use Rattle.chord_rule.proofs.BypassSteps.{bypassed_order, whole_bypass_head, whole_bypass_cell}
 use Rattle.chord_rule.proofs.KeySteps.{head_key}
 use Rattle.chord_rule.proofs.Knowing as knowing
+use Rattle.chord_rule.proofs.Spreading.{spread_one}
 use Rattle.chord_rule.proofs.Wholes as wholes
 
 -- the word of a consumed message tells its next
@@ -74,8 +76,8 @@ module _ {P : Type 0} (entries : P → List Entry) (arguments : P → List value
 
   -- the next of a consumed message is moved past consumed messages, if its cell is as it was
   pub bypass_cell_step : (id : ℕ) (me : Me (Option P) View) (i : ℕ) (from to : Option ℕ) → me.0.gone ≡ false → i < n → NextFits a_cell.Consumed from → NextFits a_cell.Consumed to → WentPast me.0 i to
-      → Allows H n id me (1 + i) (λ z. either (eqb z (word a_cell.Consumed from)) (word a_cell.Consumed to) z) (bypasses_cell (step n (1 + i) (word a_cell.Consumed from) (word a_cell.Consumed to) none) me)
-  bypass_cell_step id me i from to live low from_fits to_fits past = exchange_cell Unseen W n width id me i (a_word a_cell.Consumed from) (a_word a_cell.Consumed to) (bypasses_cell (step n (1 + i) (word a_cell.Consumed from) (word a_cell.Consumed to) none) me) low
+      → Allows H n id me (cell_at i) (λ z. either (eqb z (word a_cell.Consumed from)) (word a_cell.Consumed to) z) (bypasses_cell (step n (cell_at i) (word a_cell.Consumed from) (word a_cell.Consumed to) none) me)
+  bypass_cell_step id me i from to live low from_fits to_fits past = exchange_cell Unseen W n width id me i (a_word a_cell.Consumed from) (a_word a_cell.Consumed to) (bypasses_cell (step n (cell_at i) (word a_cell.Consumed from) (word a_cell.Consumed to) none) me) low
       (omega arith, from_fits) (omega arith, to_fits)
       (λ m u whole at is. (
         saw me.0 i (a_word a_cell.Consumed to),
@@ -99,6 +101,6 @@ module _ {P : Type 0} (entries : P → List Entry) (arguments : P → List value
         ),
       ))
     where
-      all_tells : (x : ℕ) (w : Me (Option P) View) → BypassCellTells i from to (step n (1 + i) (word a_cell.Consumed from) (word a_cell.Consumed to) none) me x w → bypasses_cell (step n (1 + i) (word a_cell.Consumed from) (word a_cell.Consumed to) none) me x w
-      all_tells x w told i' from' to' e f g = let there : i ≡ i' = omega arith in let before = same_consumed from from' f in let next = same_consumed to to' g in
-          subst (λ (y : ℕ × Option ℕ × Option ℕ). BypassCellTells y.0 y.1 y.2 (step n (1 + i) (word a_cell.Consumed from) (word a_cell.Consumed to) none) me x w) (λ k. (there k, before k, next k)) told
+      all_tells : (x : ℕ) (w : Me (Option P) View) → BypassCellTells i from to (step n (cell_at i) (word a_cell.Consumed from) (word a_cell.Consumed to) none) me x w → bypasses_cell (step n (cell_at i) (word a_cell.Consumed from) (word a_cell.Consumed to) none) me x w
+      all_tells x w told i' from' to' e f g = let there : i ≡ i' = spread_one i i' (omega arith) in let before = same_consumed from from' f in let next = same_consumed to to' g in
+          subst (λ (y : ℕ × Option ℕ × Option ℕ). BypassCellTells y.0 y.1 y.2 (step n (cell_at i) (word a_cell.Consumed from) (word a_cell.Consumed to) none) me x w) (λ k. (there k, before k, next k)) told

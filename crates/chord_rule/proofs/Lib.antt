@@ -1,4 +1,5 @@
 pub mod Puts
+pub mod Spreading
 pub mod Frames
 pub mod Lists
 pub mod HandSteps

@@ -11,7 +11,8 @@ use Rattle.chord_base.specs.declared.event.Entry.{Entry}
 use Rattle.chord_base.specs.declared.value.Value as value
 use Rattle.chord_base.specs.declared.event.What.{What}
 use Rattle.chord_rule.specs.declared.view.View.{View}
-use Rattle.chord_rule.specs.Moment.{Moment, empty_word, head_at}
+use Rattle.chord_rule.specs.Layout.{cell_at, place_at, head_at, word_count}
+use Rattle.chord_rule.specs.Moment.{Moment, empty_word}
 use Rattle.chord_rule.specs.Keeping.{kept_at, at_desk}
 use Rattle.chord_rule.specs.Tells.{draws, HasNotBegun}
 use Rattle.chord_rule.specs.Kinds.{saw_count, drew, was_told, entry, newcomer_first, drawn_stage}
@@ -120,7 +121,7 @@ module _ {P : Type 0} (entries : P → List Entry) (arguments : P → List value
       cases false = refl
 
   -- the table at the start meets the rule
-  pub opens : IsTabled p → (n width words_count : ℕ) → words_count ≡ 1 + 2 * n + width * n → Held entries arguments keeps_to p n width (opening (replicate words_count 0) (replicate n None) newcomer_first)
+  pub opens : IsTabled p → (n width words_count : ℕ) → words_count ≡ word_count n width → Held entries arguments keeps_to p n width (opening (replicate words_count 0) (replicate n None) newcomer_first)
   opens tabled n width words_count wide = record {
     moment = first_moment;
     ghosts = record { journal = []; stage = λ i. Vacant; order = nothing_linked };
@@ -128,9 +129,9 @@ module _ {P : Type 0} (entries : P → List Entry) (arguments : P → List value
       wide = length-replicate words_count 0 ∙ wide;
       deep = length-map (replicate n None) (λ (x : Option P). some x) ∙ length-replicate n None;
       count = zero_at words_count 0;
-      cells = λ i l. (zero_at words_count (1 + i), (omega arith, tt));
+      cells = λ i l. (zero_at words_count (cell_at i), (omega arith, tt));
       heads = λ o j l few. (zero_at words_count (head_at n width o j), tt);
-      places = λ i l. (zero_at words_count (1 + n + i), tt);
+      places = λ i l. (zero_at words_count (place_at n i), tt);
       homes = λ i l. all_vacant n i None l;
       views = refl;
     };

@@ -21,7 +21,8 @@ use Rattle.chord_word.specs.Cells.{word_of, link_of, WordFits, NextFits}
 use Rattle.chord_word.specs.Places.{place_word, PlaceFits}
 use Rattle.chord_rule.specs.declared.view.Claim.{Claim}
 use Rattle.chord_rule.specs.declared.view.View.{View}
-use Rattle.chord_rule.specs.Moment.{Moment, LinkOk, head_at}
+use Rattle.chord_rule.specs.Layout.{cell_at, place_at, head_at}
+use Rattle.chord_rule.specs.Moment.{Moment, LinkOk}
 use Rattle.chord_rule.specs.Numbers.{HasNumber}
 use Rattle.chord_rule.specs.Kinds.{newcomer, gone, MayGo, entry, drew, was_told, claimed, saw, saw_count, saw_head}
 use Rattle.chord_rule.specs.Bags.{head_number, IsConsumed}
@@ -40,6 +41,7 @@ use Rattle.chord_rule.proofs.Puts.{put, at_inside}
 use Rattle.chord_rule.proofs.BagSteps.{linked_order}
 use Rattle.chord_rule.proofs.Bridge.{Can, after_act, counter_step, store_cell, swap_head, store_place, exchange_cell, load_cell}
 use Rattle.chord_rule.proofs.Counting.{count_fits}
+use Rattle.chord_rule.proofs.Spreading.{spread_one}
 use Rattle.chord_rule.proofs.Lists.{some_is}
 use Rattle.chord_rule.proofs.MessageSteps.{claim_on}
 use Rattle.chord_rule.proofs.Standing as standing
@@ -128,15 +130,15 @@ module _ {P : Type 0} (entries : P → List Entry) (arguments : P → List value
 
   -- the place word of a message is set
   pub place_step : (id : ℕ) (me : Me (Option P) View) (i : ℕ) (e : Entry) (x : Message) → me.0.gone ≡ false → x.object.number < n → x.method < 16 → PlaceFits x.object x.method → i < n → IsIn e me.0.kept → e.number ≡ i → message_of e.what ≡ Some x → HasNumber i me.0.fresh → me.0.placing ≡ None
-      → Allows H n id me (1 + n + i) (λ _. place_word x.object x.method) (λ _. places (step n (1 + n + i) (place_word x.object x.method) 0 none) me (place_word x.object x.method))
-  place_step id me i e x live near few fits low is num says has free = store_place Unseen W n width id me i (Some (x.object, x.method)) (places (step n (1 + n + i) (place_word x.object x.method) 0 none) me (place_word x.object x.method)) low fits
+      → Allows H n id me (place_at n i) (λ _. place_word x.object x.method) (λ _. places (step n (place_at n i) (place_word x.object x.method) 0 none) me (place_word x.object x.method))
+  place_step id me i e x live near few fits low is num says has free = store_place Unseen W n width id me i (Some (x.object, x.method)) (places (step n (place_at n i) (place_word x.object x.method) 0 none) me (place_word x.object x.method)) low fits
       (λ m u whole at. (
         kinds.address_set me.0 i,
         takes i None,
         record u { stage = put u.stage i (InHand id Placing) },
         (low, (agreeing.it entries arguments keeps_to p n small m u whole.agrees id me.0 at i (InHand id Fresh) (whole.agrees.stands.hands.holds id me.0 at i Fresh has)).1.slot),
         wholes.whole_place entries arguments keeps_to p n small m u whole id me.0 at live i e x is num says has free near few,
-        (λ j q. let same : i ≡ j = omega arith in (ap (kinds.address_set me.0) same, ap (λ (k : ℕ). (k, None) ∷ me.1) same)),
+        (λ j q. let same : i ≡ j = spread_one i j (omega arith) in (ap (kinds.address_set me.0) same, ap (λ (k : ℕ). (k, None) ∷ me.1) same)),
       ))
 
   -- a message is linked at the head of its bag
@@ -157,8 +159,8 @@ module _ {P : Type 0} (entries : P → List Entry) (arguments : P → List value
 
   -- a linked message is armed
   pub arm_step : (id : ℕ) (me : Me (Option P) View) (i : ℕ) → me.0.gone ≡ false → i < n → me.0.flight ≡ Some i
-      → Allows H n id me (1 + i) (λ _. word a_cell.Pending me.0.above) (λ _. arms (step n (1 + i) (word a_cell.Pending me.0.above) 0 none) me (word a_cell.Pending me.0.above))
-  arm_step id me i live low flying = store_cell Unseen W n width id me i (record { cell = a_cell.Pending; next = me.0.above }) (arms (step n (1 + i) (word a_cell.Pending me.0.above) 0 none) me (word a_cell.Pending me.0.above)) low
+      → Allows H n id me (cell_at i) (λ _. word a_cell.Pending me.0.above) (λ _. arms (step n (cell_at i) (word a_cell.Pending me.0.above) 0 none) me (word a_cell.Pending me.0.above))
+  arm_step id me i live low flying = store_cell Unseen W n width id me i (record { cell = a_cell.Pending; next = me.0.above }) (arms (step n (cell_at i) (word a_cell.Pending me.0.above) 0 none) me (word a_cell.Pending me.0.above)) low
       (λ m u whole at good. (
         (omega arith, fits me.0.above (bagging.above_low entries arguments keeps_to p n small m u whole.agrees.stands whole.agrees.heads whole.agrees.bags id me.0 at i flying)),
         (saw (kinds.armed me.0 i) i (a_word a_cell.Pending me.0.above), keeps, record u { stage = put u.stage i Armed }, tt, wholes.whole_arm entries arguments keeps_to p n small m u whole id me.0 at live i flying, (λ j q. let same : i ≡ j = (let z = sym flying ∙ q in cc) in λ k. (saw (kinds.armed me.0 (same k)) (same k) (a_word a_cell.Pending me.0.above), me.1))),
@@ -170,8 +172,8 @@ module _ {P : Type 0} (entries : P → List Entry) (arguments : P → List value
 
   -- a pending message is claimed, if its cell is as it was seen
   pub claim_step : (id : ℕ) (me : Me (Option P) View) (i : ℕ) (next : Option ℕ) → me.0.gone ≡ false → i < n → NextFits a_cell.Pending next → HasSeen me.0 i next
-      → Allows H n id me (1 + i) (λ z. either (eqb z (word a_cell.Pending next)) (word a_cell.Claimed next) z) (claims (step n (1 + i) (word a_cell.Pending next) (word a_cell.Claimed next) none) me)
-  claim_step id me i next live low fits saw_it = exchange_cell Unseen W n width id me i (a_word a_cell.Pending next) (a_word a_cell.Claimed next) (claims (step n (1 + i) (word a_cell.Pending next) (word a_cell.Claimed next) none) me) low
+      → Allows H n id me (cell_at i) (λ z. either (eqb z (word a_cell.Pending next)) (word a_cell.Claimed next) z) (claims (step n (cell_at i) (word a_cell.Pending next) (word a_cell.Claimed next) none) me)
+  claim_step id me i next live low fits saw_it = exchange_cell Unseen W n width id me i (a_word a_cell.Pending next) (a_word a_cell.Claimed next) (claims (step n (cell_at i) (word a_cell.Pending next) (word a_cell.Claimed next) none) me) low
       (omega arith, fits) (omega arith, (link_low a_cell.Pending next fits).0)
       (λ m u whole at is. let x = standing.pending_message entries arguments keeps_to p n m u whole.agrees.stands id me.0 at i next is in let c : Claim = claim_on i next x.0 in (
         saw (claimed me.0 c) i (a_word a_cell.Claimed next),
@@ -213,13 +215,13 @@ module _ {P : Type 0} (entries : P → List Entry) (arguments : P → List value
       same_next (Some x) None e = absurd (omega arith)
       same_next (Some x) (Some y) e = let z : x ≡ y = omega arith in ap (λ (k : ℕ). Some k) z
 
-      all_tells : (i : ℕ) (next : Option ℕ) (x : ℕ) (w : Me (Option P) View) → ClaimTells i next (step n (1 + i) (word a_cell.Pending next) (word a_cell.Claimed next) none) me x w → claims (step n (1 + i) (word a_cell.Pending next) (word a_cell.Claimed next) none) me x w
-      all_tells i next x w told j next' e q = let same : i ≡ j = omega arith in let link : next ≡ next' = same_next next next' q in
-          subst (λ (y : ℕ × Option ℕ). ClaimTells y.0 y.1 (step n (1 + i) (word a_cell.Pending next) (word a_cell.Claimed next) none) me x w) (λ k. (same k, link k)) told
+      all_tells : (i : ℕ) (next : Option ℕ) (x : ℕ) (w : Me (Option P) View) → ClaimTells i next (step n (cell_at i) (word a_cell.Pending next) (word a_cell.Claimed next) none) me x w → claims (step n (cell_at i) (word a_cell.Pending next) (word a_cell.Claimed next) none) me x w
+      all_tells i next x w told j next' e q = let same : i ≡ j = spread_one i j (omega arith) in let link : next ≡ next' = same_next next next' q in
+          subst (λ (y : ℕ × Option ℕ). ClaimTells y.0 y.1 (step n (cell_at i) (word a_cell.Pending next) (word a_cell.Claimed next) none) me x w) (λ k. (same k, link k)) told
 
   -- a load of the cell of a claim
-  pub claim_word_step : (id : ℕ) (me : Me (Option P) View) (i : ℕ) → i < n → Allows H n id me (1 + i) (λ x. x) (holds (step n (1 + i) 0 0 none) me)
-  claim_word_step id me i low = load_cell Unseen W n width id me i (holds (step n (1 + i) 0 0 none) me) low
+  pub claim_word_step : (id : ℕ) (me : Me (Option P) View) (i : ℕ) → i < n → Allows H n id me (cell_at i) (λ x. x) (holds (step n (cell_at i) 0 0 none) me)
+  claim_word_step id me i low = load_cell Unseen W n width id me i (holds (step n (cell_at i) 0 0 none) me) low
       (λ m u whole at good. (
         me.0,
         keeps,
@@ -228,15 +230,15 @@ module _ {P : Type 0} (entries : P → List Entry) (arguments : P → List value
         unmoved m u whole id me.0 at,
         (
           refl,
-          (λ c has e. let same : i ≡ c.number = omega arith in let is = ap m.cells same ∙ standing.claim_word entries arguments keeps_to p n m u whole.agrees.stands id me.0 at c has in (ap word_of is, subst WordFits is good)),
+          (λ c has e. let same : i ≡ c.number = spread_one i c.number (omega arith) in let is = ap m.cells same ∙ standing.claim_word entries arguments keeps_to p n m u whole.agrees.stands id me.0 at c has in (ap word_of is, subst WordFits is good)),
           agreeing.same_claim entries arguments keeps_to p n small m u whole.agrees id me.0 at,
         ),
       ))
 
   -- the table allows a desk to give back a claim for no firing
   pub give_step : (id : ℕ) (me : Me (Option P) View) (c : Claim) → me.0.gone ≡ false → c.number < n → HasThe c me.0.claims → c.firing ≡ None
-      → Allows H n id me (1 + c.number) (λ _. word a_cell.Pending c.next) (λ _. unclaims (step n (1 + c.number) (word a_cell.Pending c.next) 0 none) me (word a_cell.Pending c.next))
-  give_step id me c live low has free = store_cell Unseen W n width id me c.number (record { cell = a_cell.Pending; next = c.next }) (unclaims (step n (1 + c.number) (word a_cell.Pending c.next) 0 none) me (word a_cell.Pending c.next)) low
+      → Allows H n id me (cell_at c.number) (λ _. word a_cell.Pending c.next) (λ _. unclaims (step n (cell_at c.number) (word a_cell.Pending c.next) 0 none) me (word a_cell.Pending c.next))
+  give_step id me c live low has free = store_cell Unseen W n width id me c.number (record { cell = a_cell.Pending; next = c.next }) (unclaims (step n (cell_at c.number) (word a_cell.Pending c.next) 0 none) me (word a_cell.Pending c.next)) low
       (λ m u whole at good. let is = standing.claim_word entries arguments keeps_to p n m u whole.agrees.stands id me.0 at c has in (
         (omega arith, (link_low a_cell.Claimed c.next (subst WordFits is good).1).1),
         (
@@ -245,14 +247,14 @@ module _ {P : Type 0} (entries : P → List Entry) (arguments : P → List value
           record u { stage = put u.stage c.number Armed },
           tt,
           wholes.whole_give_back entries arguments keeps_to p n small m u whole id me.0 at live c has free,
-          (λ d there e. let same : c ≡ d = agreeing.same_claim entries arguments keeps_to p n small m u whole.agrees id me.0 at c d has there (omega arith) in λ k. (saw (kinds.unclaimed me.0 (same k).number) (same k).number (a_word a_cell.Pending (same k).next), me.1)),
+          (λ d there e. let same : c ≡ d = agreeing.same_claim entries arguments keeps_to p n small m u whole.agrees id me.0 at c d has there (spread_one c.number d.number (omega arith)) in λ k. (saw (kinds.unclaimed me.0 (same k).number) (same k).number (a_word a_cell.Pending (same k).next), me.1)),
         ),
       ))
 
   -- the table allows a desk to consume a message that it has claimed for a firing
   pub consume_step : (id : ℕ) (me : Me (Option P) View) (c : Claim) (f : ℕ) → me.0.gone ≡ false → c.number < n → HasThe c me.0.claims → c.firing ≡ Some f → me.0.emptying ≡ None
-      → Allows H n id me (1 + c.number) (λ _. word a_cell.Consumed c.next) (λ _. consumes p entries arguments keeps_to (step n (1 + c.number) (word a_cell.Consumed c.next) 0 none) me (word a_cell.Consumed c.next))
-  consume_step id me c f live low has for free = store_cell Unseen W n width id me c.number (record { cell = a_cell.Consumed; next = c.next }) (consumes p entries arguments keeps_to (step n (1 + c.number) (word a_cell.Consumed c.next) 0 none) me (word a_cell.Consumed c.next)) low
+      → Allows H n id me (cell_at c.number) (λ _. word a_cell.Consumed c.next) (λ _. consumes p entries arguments keeps_to (step n (cell_at c.number) (word a_cell.Consumed c.next) 0 none) me (word a_cell.Consumed c.next))
+  consume_step id me c f live low has for free = store_cell Unseen W n width id me c.number (record { cell = a_cell.Consumed; next = c.next }) (consumes p entries arguments keeps_to (step n (cell_at c.number) (word a_cell.Consumed c.next) 0 none) me (word a_cell.Consumed c.next)) low
       (λ m u whole at good. let is = standing.claim_word entries arguments keeps_to p n m u whole.agrees.stands id me.0 at c has in let home = standing.claim_home entries arguments keeps_to p n m u whole.agrees.stands id me.0 at c has in
       let comes = standing.claim_comes entries arguments keeps_to p n m u whole.agrees.stands id me.0 at c home.0 has home.1 in (
         (omega arith, (link_low a_cell.Claimed c.next (subst WordFits is good).1).2),
@@ -263,7 +265,7 @@ module _ {P : Type 0} (entries : P → List Entry) (arguments : P → List value
           (low, home.1),
           wholes.whole_consume entries arguments keeps_to p n small m u whole id me.0 at live c f home.0 has for free home.1,
           (λ d g there e firing.
-              let same : c ≡ d = agreeing.same_claim entries arguments keeps_to p n small m u whole.agrees id me.0 at c d has there (omega arith) in
+              let same : c ≡ d = agreeing.same_claim entries arguments keeps_to p n small m u whole.agrees id me.0 at c d has there (spread_one c.number d.number (omega arith)) in
               let one : f ≡ g = some_is f g (sym for ∙ ap (λ (y : Claim). y.firing) same ∙ firing) in (
                 home.0,
                 ap (λ (y : Claim). saw (kinds.consumed me.0 y.number (entries home.0)) y.number (a_word a_cell.Consumed y.next)) same,
@@ -277,29 +279,29 @@ module _ {P : Type 0} (entries : P → List Entry) (arguments : P → List value
       ))
 
   -- the table allows a desk to bring the empty slot of a message that it consumed home
-  pub empty_step : (id : ℕ) (v : View) (i : ℕ) → v.gone ≡ false → v.emptying ≡ Some i → Allows H n id (v, (i, None) ∷ []) 0 (λ x. x) (slot_returns (step n 0 0 0 none) (v, (i, None) ∷ []))
-  empty_step id v i live is = counter_step Unseen W n width id (v, (i, None) ∷ []) (λ x. x) (slot_returns (step n 0 0 0 none) (v, (i, None) ∷ []))
+  pub empty_step : (id : ℕ) (v : View) (i : ℕ) → v.gone ≡ false → i < n → v.emptying ≡ Some i → Allows H n id (v, (i, None) ∷ []) (cell_at i) (λ x. x) (slot_returns (step n (cell_at i) 0 0 none) (v, (i, None) ∷ []))
+  empty_step id v i live low is = load_cell Unseen W n width id (v, (i, None) ∷ []) i (slot_returns (step n (cell_at i) 0 0 none) (v, (i, None) ∷ [])) low
       (λ m u whole at fits. (kinds.emptied v, gives, record u { stage = put u.stage i Spent }, tt, wholes.whole_empty entries arguments keeps_to p n small m u whole id v at live i is, (λ j e q. refl)))
 
   -- ## Firings
 
   -- the table allows a desk to take out the empty slot of a firing that it has not posted
-  pub post_out_step : (id : ℕ) (me : Me (Option P) View) (f : ℕ) → me.0.gone ≡ false → f < n → HasNumber f me.0.unposted → me.0.posting ≡ None → Allows H n id me (1 + f) (λ x. x) (posts_out (step n (1 + f) 0 0 none) me)
-  post_out_step id me f live low has free = load_cell Unseen W n width id me f (posts_out (step n (1 + f) 0 0 none) me) low
+  pub post_out_step : (id : ℕ) (me : Me (Option P) View) (f : ℕ) → me.0.gone ≡ false → f < n → HasNumber f me.0.unposted → me.0.posting ≡ None → Allows H n id me (cell_at f) (λ x. x) (posts_out (step n (cell_at f) 0 0 none) me)
+  post_out_step id me f live low has free = load_cell Unseen W n width id me f (posts_out (step n (cell_at f) 0 0 none) me) low
       (λ m u whole at good. (
         kinds.posting me.0 f,
         takes f None,
         record u { stage = put u.stage f (InHand id Posting) },
         (low, (agreeing.it entries arguments keeps_to p n small m u whole.agrees id me.0 at f (InHand id Unposted) (whole.agrees.stands.hands.holds id me.0 at f Unposted has)).1.slot),
         wholes.whole_posting entries arguments keeps_to p n small m u whole id me.0 at live f has free,
-        (λ j e. let same : f ≡ j = omega arith in (ap (kinds.posting me.0) same, ap (λ (k : ℕ). (k, None) ∷ me.1) same)),
+        (λ j e. let same : f ≡ j = spread_one f j (omega arith) in (ap (kinds.posting me.0) same, ap (λ (k : ℕ). (k, None) ∷ me.1) same)),
       ))
 
   -- the table allows a desk to post a firing whose slot it has out, with a parcel that begins it
   pub post_step : (id : ℕ) (v : View) (f : ℕ) (q : P) → v.gone ≡ false → f < n → v.posting ≡ Some f → MayGo p v.kept (entries q) → ((e : Entry) (x : Message) → IsIn e (entries q) → message_of e.what ≡ Some x → IsUnlinked (hand v) e.number → ⊥)
       → BeginsThere f (entries q) → ((e : Entry) → IsIn e (entries q) → e.body ≡ f → e.number ≡ f) → ((b : ℕ) → (b ≡ f → ⊥) → BeginsThere b (entries q) → IsParkedThere p (entries q) None (doing p (entries q) b)) → keeps_to q
-      → Allows H n id (v, (f, Some q) ∷ []) (1 + f) (λ _. word a_cell.Ready None) (λ _. posts entries (step n (1 + f) (word a_cell.Ready None) 0 none) (v, (f, Some q) ∷ []) (word a_cell.Ready None))
-  post_step id v f q live low posting may others begins only parked task = store_cell Unseen W n width id (v, (f, Some q) ∷ []) f (record { cell = a_cell.Ready; next = None }) (posts entries (step n (1 + f) (word a_cell.Ready None) 0 none) (v, (f, Some q) ∷ []) (word a_cell.Ready None)) low
+      → Allows H n id (v, (f, Some q) ∷ []) (cell_at f) (λ _. word a_cell.Ready None) (λ _. posts entries (step n (cell_at f) (word a_cell.Ready None) 0 none) (v, (f, Some q) ∷ []) (word a_cell.Ready None))
+  post_step id v f q live low posting may others begins only parked task = store_cell Unseen W n width id (v, (f, Some q) ∷ []) f (record { cell = a_cell.Ready; next = None }) (posts entries (step n (cell_at f) (word a_cell.Ready None) 0 none) (v, (f, Some q) ∷ []) (word a_cell.Ready None)) low
       (λ m u whole at good. (
         (omega arith, tt),
         (saw (kinds.posted v (entries q)) f (a_word a_cell.Ready None), gives, record u { stage = put u.stage f Posted }, tt, wholes.whole_post entries arguments keeps_to p n small m u whole id v at live f q posting may others begins only parked task, (λ g r e. let same = same_out f g q r e in (λ z. saw (kinds.posted v (entries (same.1 z))) (same.0 z) (a_word a_cell.Ready None), refl))),
@@ -307,8 +309,8 @@ module _ {P : Type 0} (entries : P → List Entry) (arguments : P → List value
 
   -- the table allows a desk to start a firing if its cell is ready, and to remember its cell if not
   pub start_step : (id : ℕ) (me : Me (Option P) View) (f : ℕ) → me.0.gone ≡ false → f < n → me.0.starting ≡ None
-      → Allows H n id me (1 + f) (λ z. either (eqb z (word a_cell.Ready None)) (word a_cell.Started None) z) (starts p entries keeps_to (step n (1 + f) (word a_cell.Ready None) (word a_cell.Started None) none) me)
-  start_step id me f live low free = exchange_cell Unseen W n width id me f (record { cell = a_cell.Ready; next = None }) (record { cell = a_cell.Started; next = None }) (starts p entries keeps_to (step n (1 + f) (word a_cell.Ready None) (word a_cell.Started None) none) me) low
+      → Allows H n id me (cell_at f) (λ z. either (eqb z (word a_cell.Ready None)) (word a_cell.Started None) z) (starts p entries keeps_to (step n (cell_at f) (word a_cell.Ready None) (word a_cell.Started None) none) me)
+  start_step id me f live low free = exchange_cell Unseen W n width id me f (record { cell = a_cell.Ready; next = None }) (record { cell = a_cell.Started; next = None }) (starts p entries keeps_to (step n (cell_at f) (word a_cell.Ready None) (word a_cell.Started None) none) me) low
       (omega arith, tt) (omega arith, tt)
       (λ m u whole at is.
       let ready : (m.cells f).cell ≡ a_cell.Ready = ap (λ (c : Word). c.cell) is in
@@ -318,7 +320,7 @@ module _ {P : Type 0} (entries : P → List Entry) (arguments : P → List value
         record u { stage = put u.stage f (InHand id Starting) },
         (low, home.1),
         wholes.whole_start entries arguments keeps_to p n small m u whole id me.0 at live f home.0 ready free home.1,
-        (λ j e. let same : f ≡ j = omega arith in ((λ _. (home.0, ap (λ (k : ℕ). saw (kinds.firing_started me.0 k (entries home.0)) k (a_word a_cell.Started None)) same, ap (λ (k : ℕ). (k, Some home.0) ∷ me.1) same, comes.1, subst (λ (k : ℕ). ComesWithFiring p me.0.kept k (entries home.0)) same (coming.comes_with_firing entries arguments keeps_to p n m u whole.agrees.stands id me.0 at f home.0 ready home.1))), (λ ne. absurd (ne refl)))),
+        (λ j e. let same : f ≡ j = spread_one f j (omega arith) in ((λ _. (home.0, ap (λ (k : ℕ). saw (kinds.firing_started me.0 k (entries home.0)) k (a_word a_cell.Started None)) same, ap (λ (k : ℕ). (k, Some home.0) ∷ me.1) same, comes.1, subst (λ (k : ℕ). ComesWithFiring p me.0.kept k (entries home.0)) same (coming.comes_with_firing entries arguments keeps_to p n m u whole.agrees.stands id me.0 at f home.0 ready home.1))), (λ ne. absurd (ne refl)))),
       ))
       (λ m u whole at good ne. (
         saw me.0 f (m.cells f),
@@ -326,15 +328,15 @@ module _ {P : Type 0} (entries : P → List Entry) (arguments : P → List value
         u,
         tt,
         wholes.whole_saw entries arguments keeps_to p n small m u whole id me.0 at live f,
-        (λ j e. let same : f ≡ j = omega arith in (
+        (λ j e. let same : f ≡ j = spread_one f j (omega arith) in (
           (λ s. absurd (ne s)),
           (λ _. (refl, (m.cells f, good, (λ r. ne (ap word_of (standing.ready_word entries arguments keeps_to p n m u whole.agrees.stands id me.0 at f r))), refl, ap (λ (k : ℕ). saw me.0 k (m.cells f)) same))),
         )),
       ))
 
   -- the slot of a started firing is home again
-  pub play_step : (id : ℕ) (v : View) (f : ℕ) → v.gone ≡ false → v.starting ≡ Some f → Allows H n id (v, (f, None) ∷ []) 0 (λ x. x) (plays (step n 0 0 0 none) (v, (f, None) ∷ []))
-  play_step id v f live is = counter_step Unseen W n width id (v, (f, None) ∷ []) (λ x. x) (plays (step n 0 0 0 none) (v, (f, None) ∷ []))
+  pub play_step : (id : ℕ) (v : View) (f : ℕ) → v.gone ≡ false → f < n → v.starting ≡ Some f → Allows H n id (v, (f, None) ∷ []) (cell_at f) (λ x. x) (plays (step n (cell_at f) 0 0 none) (v, (f, None) ∷ []))
+  play_step id v f live low is = load_cell Unseen W n width id (v, (f, None) ∷ []) f (plays (step n (cell_at f) 0 0 none) (v, (f, None) ∷ [])) low
       (λ m u whole at fits. (kinds.played v, gives, record u { stage = put u.stage f Played }, tt, wholes.whole_play entries arguments keeps_to p n small m u whole id v at live f is, (λ j e q. refl)))
 
   -- ## Desks

@@ -12,7 +12,8 @@ use Rattle.chord_word.specs.Cells.{word_of, WordFits}
 use Rattle.chord_rule.specs.declared.view.Duty.{Duty}
 use Rattle.chord_rule.specs.declared.view.View.{View}
 use Rattle.chord_rule.specs.Heading.{WasPlace}
-use Rattle.chord_rule.specs.Moment.{Moment, Place, head_at, word_at_place}
+use Rattle.chord_rule.specs.Layout.{cell_at, place_at, head_at}
+use Rattle.chord_rule.specs.Moment.{Moment, Place, word_at_place}
 use Rattle.chord_rule.specs.Bags.{IsArmed, cell_of, head_number}
 use Rattle.chord_rule.specs.Duties.{HasDuty, MayRest}
 use Rattle.chord_rule.specs.Kinds.{saw_count, looked_head, looked_cell, rested}
@@ -31,6 +32,7 @@ use Rattle.chord_rule.proofs.Lists.{some_is}
 use Rattle.chord_rule.proofs.Moving.{unmoved}
 use Rattle.chord_rule.proofs.Naming as naming
 use Rattle.chord_rule.proofs.Puts.{at_inside}
+use Rattle.chord_rule.proofs.Spreading.{spread_one}
 use Rattle.chord_rule.proofs.WaySteps.{way_room, linked_numbers, were_linked}
 use Rattle.chord_rule.proofs.Wholes as wholes
 use Rattle.atomic_table.proofs.Lists.{set_here}
@@ -78,15 +80,15 @@ module _ {P : Type 0} (entries : P → List Entry) (arguments : P → List value
       linked m u whole at = were_linked n u.order (head_number (key o j)) (wholes.linked_below entries arguments keeps_to p n small m u whole id me.0 at live)
 
   -- a look at a cell
-  pub look_cell_step : (id : ℕ) (me : Me (Option P) View) (i : ℕ) → me.0.gone ≡ false → i < n → Allows H n id me (1 + i) (λ x. x) (looks_cell (step n (1 + i) 0 0 none) me)
-  look_cell_step id me i live low = load_cell Unseen W n width id me i (looks_cell (step n (1 + i) 0 0 none) me) low
+  pub look_cell_step : (id : ℕ) (me : Me (Option P) View) (i : ℕ) → me.0.gone ≡ false → i < n → Allows H n id me (cell_at i) (λ x. x) (looks_cell (step n (cell_at i) 0 0 none) me)
+  look_cell_step id me i live low = load_cell Unseen W n width id me i (looks_cell (step n (cell_at i) 0 0 none) me) low
       (λ m u whole at good. let w : View = looked_cell me.0 i (m.cells i) in let after_act = wholes.whole_look_cell entries arguments keeps_to p n small m u whole id me.0 at live i in (
         w,
         keeps,
         u,
         tt,
         wholes.whole_look_cell entries arguments keeps_to p n small m u whole id me.0 at live i,
-        (λ j e. let same : i ≡ j = omega arith in subst (λ (k : ℕ). (c : Word) × WordFits c × (word_of (m.cells i) ≡ word_of c) × IsLook n me.0 w k c × (me.1 ≡ me.1)) same (m.cells i, good, refl, tells m u whole at w refl after_act, refl)),
+        (λ j e. let same : i ≡ j = spread_one i j (omega arith) in subst (λ (k : ℕ). (c : Word) × WordFits c × (word_of (m.cells i) ≡ word_of c) × IsLook n me.0 w k c × (me.1 ≡ me.1)) same (m.cells i, good, refl, tells m u whole at w refl after_act, refl)),
       ))
     where
       on_way_bag : (m : Moment P) (u : Unseen) (whole : W m u) (at : get_elem? m.views id ≡ some me.0) → (ws : List Way) → ((x : Way) → HasWay x ws → WayLaw n m.cells u.order x) → IsAt i ws → (k : ℕ) × (u.order.bag i ≡ Some k)
@@ -107,8 +109,8 @@ module _ {P : Type 0} (entries : P → List Entry) (arguments : P → List value
       }
 
   -- a look at a place word
-  pub look_place_step : (id : ℕ) (me : Me (Option P) View) (i : ℕ) → i < n → Allows H n id me (1 + n + i) (λ x. x) (looks_place entries arguments keeps_to p (step n (1 + n + i) 0 0 none) me)
-  look_place_step id me i low = load_place Unseen W n width id me i (looks_place entries arguments keeps_to p (step n (1 + n + i) 0 0 none) me) low
+  pub look_place_step : (id : ℕ) (me : Me (Option P) View) (i : ℕ) → i < n → Allows H n id me (place_at n i) (λ x. x) (looks_place entries arguments keeps_to p (step n (place_at n i) 0 0 none) me)
+  look_place_step id me i low = load_place Unseen W n width id me i (looks_place entries arguments keeps_to p (step n (place_at n i) 0 0 none) me) low
       (λ m u whole at good. (
         me.0,
         keeps,
@@ -117,7 +119,7 @@ module _ {P : Type 0} (entries : P → List Entry) (arguments : P → List value
         unmoved entries arguments keeps_to p n width any small m u whole id me.0 at,
         (
           refl,
-          (λ j e. let same : i ≡ j = omega arith in (
+          (λ j e. let same : i ≡ j = spread_one i j (omega arith) in (
             m.places i,
             refl,
             good,
@@ -150,8 +152,8 @@ module _ {P : Type 0} (entries : P → List Entry) (arguments : P → List value
 
   -- a duty is laid down: each duty on this message in one of its bags may rest
   pub rest_step : (id : ℕ) (me : Me (Option P) View) (d : Duty) → me.0.gone ≡ false → HasDuty d me.0.duties → ((e : Duty) → HasDuty e me.0.duties → e.message ≡ d.message → e.bag ≡ d.bag → MayRest (IsChord p) e)
-      → Allows H n id me 0 (λ x. x) (rests d.message (step n 0 0 0 none) me)
-  rest_step id me d live has may = counter_step Unseen W n width id me (λ x. x) (rests d.message (step n 0 0 0 none) me)
+      → Allows H n id me (place_at n 0) (λ x. x) (rests d.message (step n (place_at n 0) 0 0 none) me)
+  rest_step id me d live has may = load_place Unseen W n width id me 0 (rests d.message (step n (place_at n 0) 0 0 none) me) any
       (λ m u whole at fits. (
         rested me.0 d.message,
         keeps,

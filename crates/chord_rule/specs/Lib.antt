@@ -4,6 +4,8 @@
 
 -- numbers among lists
 pub mod Numbers
+-- where the words of a table lie
+pub mod Layout
 -- the table at a moment as plain data, and how its words show it
 pub mod Moment
 -- objects and bags: what an entry names was made before, and what the table takes of a program

@@ -10,6 +10,7 @@ use Rattle.chord_word.specs.declared.cells.Word.{Word}
 use Rattle.chord_word.specs.Cells.{word_of, link_of, WordFits}
 use Rattle.chord_word.specs.Places.{place_word, PlaceFits}
 use Rattle.chord_rule.specs.declared.view.View.{View}
+use Rattle.chord_rule.specs.Layout.{cell_at, place_at, head_at, word_count}
 
 -- the object and the method of a message
 abbrev pub Place : Type 0
@@ -43,18 +44,14 @@ pub record Moment (P : Type 0) : Type 0 where
   pub homes : ℕ → Home P
   pub views : List View
 
--- the word of the head for the method j of the object o, in a table for n events with so many heads an object
-abbrev pub head_at : (n width o j : ℕ) → ℕ
-head_at n width o j = 1 + 2 * n + (o * width + j)
-
 -- the words and slots of the table show the moment: the counter, the cells, the place words, and so many heads for each object
 pub record Shows {P : Type 0} (n width : ℕ) (m : Moment P) (s : State (Option P) View) : Type 0 where
-  pub wide : length s.words ≡ 1 + 2 * n + width * n
+  pub wide : length s.words ≡ word_count n width
   pub deep : length s.homes ≡ n
   pub count : slice_index s.words 0 ≡ m.count
-  pub cells : (i : ℕ) → i < n → (slice_index s.words (1 + i) ≡ word_of (m.cells i)) × WordFits (m.cells i)
+  pub cells : (i : ℕ) → i < n → (slice_index s.words (cell_at i) ≡ word_of (m.cells i)) × WordFits (m.cells i)
   pub heads : (o j : ℕ) → o < n → j < width → (slice_index s.words (head_at n width o j) ≡ link_of (m.heads (16 * o + j))) × LinkOk (m.heads (16 * o + j))
-  pub places : (i : ℕ) → i < n → (slice_index s.words (1 + n + i) ≡ word_at_place (m.places i)) × PlaceOk (m.places i)
+  pub places : (i : ℕ) → i < n → (slice_index s.words (place_at n i) ≡ word_at_place (m.places i)) × PlaceOk (m.places i)
   pub homes : (i : ℕ) → i < n → get_elem? s.homes i ≡ some (m.homes i)
   pub views : s.views ≡ m.views
 

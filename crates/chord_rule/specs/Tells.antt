@@ -13,6 +13,7 @@ use Rattle.chord_word.specs.declared.cells.Cell.{Cell}
 use Rattle.chord_word.specs.declared.cells.Cell.TheVariants as a_cell
 use Rattle.chord_word.specs.declared.cells.Word.{Word}
 use Rattle.chord_word.specs.Cells.{word_of, link_of, WordFits}
+use Rattle.chord_rule.specs.Layout.{cell_at, place_at}
 use Rattle.chord_rule.specs.Moment.{LinkOk, Place, PlaceOk, word_at_place}
 use Rattle.chord_rule.specs.declared.view.Claim.{Claim}
 use Rattle.chord_rule.specs.declared.view.Duty.{Duty}
@@ -82,7 +83,7 @@ module _ {S : Type 0} where
 
   -- the place word is set, and the empty slot is out
   abbrev pub places : Step (Option S) → Me (Option S) View → ℕ → Me (Option S) View → Type 0
-  places s m x w = (i : ℕ) → s.word ≡ 1 + s.slots + i → (w.0 ≡ address_set m.0 i) × (w.1 ≡ (i, None) ∷ m.1)
+  places s m x w = (i : ℕ) → s.word ≡ place_at s.slots i → (w.0 ≡ address_set m.0 i) × (w.1 ≡ (i, None) ∷ m.1)
 
   -- the message of the slot that is out is linked in the bag of its object and method, and the parcel goes with its entries
   abbrev pub link_adds : (S → List Entry) → Object → ℕ → Step (Option S) → Me (Option S) View → ℕ → Me (Option S) View → Type 0
@@ -103,20 +104,20 @@ module _ {S : Type 0} where
 
   -- a message is claimed, or its cell was read
   abbrev pub claims : Step (Option S) → Me (Option S) View → ℕ → Me (Option S) View → Type 0
-  claims s m x w = (i : ℕ) (next : Option ℕ) → s.word ≡ 1 + i → s.first ≡ word a_cell.Pending next → ClaimTells i next s m x w
+  claims s m x w = (i : ℕ) (next : Option ℕ) → s.word ≡ cell_at i → s.first ≡ word a_cell.Pending next → ClaimTells i next s m x w
 
   -- the cell of a claim is as the claim has it, and no number is claimed twice
   abbrev pub holds : Step (Option S) → Me (Option S) View → ℕ → Me (Option S) View → Type 0
-  holds s m x w = (w ≡ m) × ((c : Claim) → HasThe c m.0.claims → s.word ≡ 1 + c.number → (x ≡ word a_cell.Claimed c.next) × WordFits (a_word a_cell.Claimed c.next))
+  holds s m x w = (w ≡ m) × ((c : Claim) → HasThe c m.0.claims → s.word ≡ cell_at c.number → (x ≡ word a_cell.Claimed c.next) × WordFits (a_word a_cell.Claimed c.next))
       × ((c d : Claim) → HasThe c m.0.claims → HasThe d m.0.claims → c.number ≡ d.number → c ≡ d)
 
   -- a claim is given back
   abbrev pub unclaims : Step (Option S) → Me (Option S) View → ℕ → Me (Option S) View → Type 0
-  unclaims s m x w = (c : Claim) → HasThe c m.0.claims → s.word ≡ 1 + c.number → w ≡ (saw (unclaimed m.0 c.number) c.number (a_word a_cell.Pending c.next), m.1)
+  unclaims s m x w = (c : Claim) → HasThe c m.0.claims → s.word ≡ cell_at c.number → w ≡ (saw (unclaimed m.0 c.number) c.number (a_word a_cell.Pending c.next), m.1)
 
   -- a message is consumed, and its parcel comes out: it holds the values of the claim, and what was drawn before the firing
   abbrev pub consumes : Program → (S → List Entry) → (S → List value.Value) → (S → Type 0) → Step (Option S) → Me (Option S) View → ℕ → Me (Option S) View → Type 0
-  consumes p entries arguments keeps_to s m x w = (c : Claim) (f : ℕ) → HasThe c m.0.claims → s.word ≡ 1 + c.number → c.firing ≡ Some f
+  consumes p entries arguments keeps_to s m x w = (c : Claim) (f : ℕ) → HasThe c m.0.claims → s.word ≡ cell_at c.number → c.firing ≡ Some f
       → (q : S) × (w.0 ≡ saw (consumed m.0 c.number (entries q)) c.number (a_word a_cell.Consumed c.next)) × (w.1 ≡ (c.number, Some q) ∷ m.1) × (arguments q ≡ c.values) × AllBelow f (entries q) × keeps_to q × ComesWithMessage p m.0.kept c (entries q)
 
   -- the empty slot is home again
@@ -127,7 +128,7 @@ module _ {S : Type 0} where
 
   -- the empty slot of a firing is out
   abbrev pub posts_out : Step (Option S) → Me (Option S) View → ℕ → Me (Option S) View → Type 0
-  posts_out s m x w = (f : ℕ) → s.word ≡ 1 + f → (w.0 ≡ posting m.0 f) × (w.1 ≡ (f, None) ∷ m.1)
+  posts_out s m x w = (f : ℕ) → s.word ≡ cell_at f → (w.0 ≡ posting m.0 f) × (w.1 ≡ (f, None) ∷ m.1)
 
   -- the firing is ready, and its parcel goes with its entries
   abbrev pub posts : (S → List Entry) → Step (Option S) → Me (Option S) View → ℕ → Me (Option S) View → Type 0
@@ -135,7 +136,7 @@ module _ {S : Type 0} where
 
   -- where the word was that of a ready firing, it is started, and its parcel comes out; else it was not ready
   abbrev pub starts : Program → (S → List Entry) → (S → Type 0) → Step (Option S) → Me (Option S) View → ℕ → Me (Option S) View → Type 0
-  starts p entries keeps_to s m x w = (f : ℕ) → s.word ≡ 1 + f
+  starts p entries keeps_to s m x w = (f : ℕ) → s.word ≡ cell_at f
       → (x ≡ s.first → (q : S) × (w.0 ≡ saw (firing_started m.0 f (entries q)) f (a_word a_cell.Started None)) × (w.1 ≡ (f, Some q) ∷ m.1) × keeps_to q × ComesWithFiring p m.0.kept f (entries q))
       × (x ≢ s.first → (w.1 ≡ m.1) × ((c : Word) × WordFits c × (c.cell ≢ a_cell.Ready) × (x ≡ word_of c) × (w.0 ≡ saw m.0 f c)))
 
@@ -159,11 +160,11 @@ module _ {S : Type 0} where
 
   -- a cell
   abbrev pub looks_cell : Step (Option S) → Me (Option S) View → ℕ → Me (Option S) View → Type 0
-  looks_cell s m x w = (i : ℕ) → s.word ≡ 1 + i → (c : Word) × WordFits c × (x ≡ word_of c) × IsLook s.slots m.0 w.0 i c × (w.1 ≡ m.1)
+  looks_cell s m x w = (i : ℕ) → s.word ≡ cell_at i → (c : Word) × WordFits c × (x ≡ word_of c) × IsLook s.slots m.0 w.0 i c × (w.1 ≡ m.1)
 
   -- a place word: it is within the table, it is the place of each bag in which the desk knows the message to be, and it stood there at a moment of the rule
   abbrev pub looks_place : (S → List Entry) → (S → List value.Value) → (S → Type 0) → Program → Step (Option S) → Me (Option S) View → ℕ → Me (Option S) View → Type 0
-  looks_place entries arguments keeps_to p s m x w = (w ≡ m) × ((i : ℕ) → s.word ≡ 1 + s.slots + i → (pl : Option Place) × (x ≡ word_at_place pl) × PlaceOk pl
+  looks_place entries arguments keeps_to p s m x w = (w ≡ m) × ((i : ℕ) → s.word ≡ place_at s.slots i → (pl : Option Place) × (x ≡ word_at_place pl) × PlaceOk pl
       × ((q : Place) → pl ≡ Some q → (q.0.number < s.slots) × (q.1 < 16))
       × ((d : Duty) → HasDuty d m.0.duties → d.message ≡ i → (q : Place) × (pl ≡ Some q) × (d.bag ≡ key q.0 q.1))
       × ((c : Claim) → HasThe c m.0.claims → c.number ≡ i → pl ≡ Some (c.object, c.method))
@@ -191,7 +192,7 @@ module _ {S : Type 0} where
 
   -- the next of a consumed message is moved past consumed messages, or its cell was read
   abbrev pub bypasses_cell : Step (Option S) → Me (Option S) View → ℕ → Me (Option S) View → Type 0
-  bypasses_cell s m x w = (i : ℕ) (from to : Option ℕ) → s.word ≡ 1 + i → s.first ≡ word a_cell.Consumed from → s.second ≡ word a_cell.Consumed to → BypassCellTells i from to s m x w
+  bypasses_cell s m x w = (i : ℕ) (from to : Option ℕ) → s.word ≡ cell_at i → s.first ≡ word a_cell.Consumed from → s.second ≡ word a_cell.Consumed to → BypassCellTells i from to s m x w
 
   -- a duty is laid down
   abbrev pub rests : ℕ → Step (Option S) → Me (Option S) View → ℕ → Me (Option S) View → Type 0

@@ -85,7 +85,12 @@ impl<P: Carry> Space<P> {
         let words = &self.table.shared;
         let first = message_word(Cell::Consumed, from);
         let last = message_word(Cell::Consumed, to);
-        let found = words.compare_exchange::<MoveNext>(&mut desk.seat, 1 + i as usize, first, last);
+        let found = words.compare_exchange::<MoveNext>(
+            &mut desk.seat,
+            self.cell_word(i),
+            first,
+            last,
+        );
         found == first
     }
 

@@ -62,7 +62,7 @@ impl<P: Carry> Space<P> {
         let claimed = message_word(Cell::Claimed, next);
         let found = words.compare_exchange::<Take>(
             &mut desk.seat,
-            1 + i as usize,
+            self.cell_word(i),
             pending,
             claimed,
         );
@@ -83,7 +83,7 @@ impl<P: Carry> Space<P> {
     {
         self.table
             .shared
-            .load::<Hold>(&mut desk.seat, 1 + i as usize)
+            .load::<Hold>(&mut desk.seat, self.cell_word(i))
     }
 
     /// Gives back the claim on message i, with which no firing was drawn: its word is what it was before the claim.
@@ -100,10 +100,10 @@ impl<P: Carry> Space<P> {
         let word = pending_again(claimed);
         self.table
             .shared
-            .store::<GiveBack>(&mut desk.seat, 1 + i as usize, word);
+            .store::<GiveBack>(&mut desk.seat, self.cell_word(i), word);
     }
 
-    // The first load reads the word, and the last one gives the empty slot back.
+    // The first load reads the word. The last one gives the empty slot back: of a word that was just written, since one that others write would be waited for.
     fn step_consume<J: Governed>(&self, desk: &mut Desk<P>, i: u32) -> P
         requires governed { (J.parts ≡ space_code self.now) × (J.limits ≡ space_limits self.now) }
         requires desk { IsDeskOf self.now desk.old }
@@ -119,9 +119,10 @@ impl<P: Carry> Space<P> {
         let claimed = self.claimed_word(desk, i);
         let word = consumed_of(claimed);
         let words = &self.table.shared;
-        words.store::<Consume<P, J>>(&mut desk.seat, 1 + i as usize, word);
+        let cell = self.cell_word(i);
+        words.store::<Consume<P, J>>(&mut desk.seat, cell, word);
         let parcel = words.exchange(&mut desk.seat, i as usize, None);
-        words.load::<ReturnSlot>(&mut desk.seat, 0);
+        words.load::<ReturnSlot>(&mut desk.seat, cell);
         parcel.unwrap()
     }
 

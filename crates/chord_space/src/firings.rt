@@ -34,12 +34,13 @@ impl<P: Carry> Space<P> {
         ensures posted { view desk.new ≡ saw (posted (posting (view desk.old) f) (P.entries parcel)) f (a_word Ready None) }
     {
         let words = &self.table.shared;
-        words.load::<TakeSlot>(&mut desk.seat, 1 + f as usize);
+        let cell = self.cell_word(f);
+        words.load::<TakeSlot>(&mut desk.seat, cell);
         match words.exchange(&mut desk.seat, f as usize, Some(parcel)) {
             None => {}
             Some(_) => unreachable!(),
         }
-        words.store::<Post<P>>(&mut desk.seat, 1 + f as usize, firing_word(Cell::Ready));
+        words.store::<Post<P>>(&mut desk.seat, cell, firing_word(Cell::Ready));
     }
 
     // Pairs with `post`. One exchange decides who plays the firing; the load gives its empty slot back.
@@ -55,15 +56,16 @@ impl<P: Carry> Space<P> {
     {
         let words = &self.table.shared;
         let ready = firing_word(Cell::Ready);
+        let cell = self.cell_word(f);
         let found = words.compare_exchange::<Start<P, J>>(
             &mut desk.seat,
-            1 + f as usize,
+            cell,
             ready,
             firing_word(Cell::Started),
         );
         if found == ready {
             let parcel = words.exchange(&mut desk.seat, f as usize, None);
-            words.load::<GiveSlot>(&mut desk.seat, 0);
+            words.load::<GiveSlot>(&mut desk.seat, cell);
             return Ok(parcel.unwrap());
         }
         Err(unpack_cell(found).cell)

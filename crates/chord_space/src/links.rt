@@ -35,10 +35,9 @@ impl<P: Carry> Space<P> {
         ensures linked { (above : Option ℕ) × (view desk.new ≡ saw_head (flown (address_set (view desk.old) m) m (key object method) above (P.entries parcel)) (head_number (key object method)) (Some m)) }
     {
         let words = &self.table.shared;
-        let count = self.events as usize;
         words.store::<Set>(
             &mut desk.seat,
-            1 + count + m as usize,
+            self.place_word(m),
             pack_place(object, method),
         );
         match words.exchange(&mut desk.seat, m as usize, Some(parcel)) {
@@ -76,7 +75,7 @@ impl<P: Carry> Space<P> {
         });
         self.table
             .shared
-            .store::<Arm>(&mut desk.seat, 1 + m as usize, word);
+            .store::<Arm>(&mut desk.seat, self.cell_word(m), word);
         desk.above = 0;
     }
 }

@@ -87,7 +87,7 @@ impl<P: Carry> Space<P> {
         let found = self
             .table
             .shared
-            .load::<SeeCell>(&mut desk.seat, 1 + i as usize);
+            .load::<SeeCell>(&mut desk.seat, self.cell_word(i));
         unpack_cell(found)
     }
 
@@ -101,11 +101,10 @@ impl<P: Carry> Space<P> {
         ensures duty { (d : Duty) → HasDuty d (view desk.old).duties → d.message ≡ i → (p : Place) × (result ≡ Some p) × (d.bag ≡ key p.0 p.1) }
         ensures claim { (c : Claim) → HasThe c (view desk.old).claims → c.number ≡ i → result ≡ Some (c.object, c.method) }
     {
-        let count = self.events as usize;
         let found = self
             .table
             .shared
-            .load::<SeePlace<J>>(&mut desk.seat, 1 + count + i as usize);
+            .load::<SeePlace<J>>(&mut desk.seat, self.place_word(i));
         unpack_place(found)
     }
 
@@ -130,7 +129,9 @@ impl<P: Carry> Space<P> {
         requires may { (d : Duty) × HasDuty d (view desk.old).duties × (d.message ≡ m) × ((e : Duty) → HasDuty e (view desk.old).duties → e.message ≡ m → e.bag ≡ d.bag → MayRest (IsChord (program_of self.now)) e) }
         ensures desk { IsSameDesk desk.old desk.new × (view desk.new ≡ rested (view desk.old) m) }
     {
-        self.table.shared.load::<LayDown<J>>(&mut desk.seat, 0);
+        // a load of any word would do: number 0 is no message, and nobody writes its place word
+        let quiet = self.place_word(0);
+        self.table.shared.load::<LayDown<J>>(&mut desk.seat, quiet);
     }
 
     /// Lays down the duty on m: it is off, or for each chord with m's method the walk in the bag of another of its methods is at

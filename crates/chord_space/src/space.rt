@@ -1,7 +1,8 @@
 //! The space and its desks.
-ghost use Rattle.std.specs.Prelude.{◌≡◌, ◌+◌, ◌*◌, ◌<◌, ◌≤◌, false, [], None, IfOk, replicate};
+ghost use Rattle.std.specs.Prelude.{◌≡◌, ℕ, ◌<◌, ◌≤◌, false, [], None, IfOk, replicate};
 ghost use Rattle.chord_code.specs.Sound.{IsSoundCode};
 ghost use Rattle.chord_rule.specs.Kinds.{newcomer_first};
+ghost use Rattle.chord_rule.specs.Layout.{spread, breadth_for, word_count};
 ghost use Rattle.chord_space.specs.Ruled.{Ruled};
 ghost use Rattle.chord_space.specs.Widest.{widest};
 ghost use Rattle.chord_word.specs.Cells.{link_of};
@@ -41,7 +42,9 @@ pub struct Space<P: Carry> {
     pub(crate) table: Table<Option<P>, View, Key, Law<P>, Global>,
     pub(crate) events: u32,
     pub(crate) heads: usize,
-    ghost sized: { (table.shared.key.limits.events ≡ events) × (table.shared.table_id.words ≡ 1 + 2 * events + heads * events) × (table.shared.table_id.slots ≡ events) × (0 < events) × (events ≤ 65536) × (heads ≡ widest table.shared.key.code.value) × (heads ≤ 16) },
+    // How many words there are of which each number has one.
+    pub(crate) breadth: usize,
+    ghost sized: { (table.shared.key.limits.events ≡ events) × (table.shared.table_id.words ≡ word_count events heads) × (table.shared.table_id.slots ≡ events) × (0 < events) × (events ≤ 65536) × (heads ≡ widest table.shared.key.code.value) × (heads ≤ 16) × (breadth ≡ breadth_for events) × (breadth ≤ 65536) },
 }
 
 /// A seat at the table: what its view says it keeps and has in hand. Between two calls no slot is out with it.
@@ -88,8 +91,27 @@ fn zeros(alloc: Global, words: usize, events: usize) -> Result<Vec<u64>, AllocEr
     Ok(zeros)
 }
 
+/// Where the word of this number lies among those of all numbers. Threads draw numbers that follow each other in turn, and write their words in turn: these lie in
+/// cache lines of their own, so that no line goes back and forth between processors.
+fn spread_of(number: u32) -> usize
+    ensures word { result ≡ spread number }
+    ensures inside { (events : ℕ) → number < events → result < breadth_for events }
+{
+    let number = number as usize;
+    number / 64 * 64 + number % 8 * 8 + number / 8 % 8
+}
+
+/// How many words there are of which each of so many numbers has one.
+fn breadth_of(events: u32) -> usize
+    requires few { events ≤ 65536 }
+    ensures breadth { result ≡ breadth_for events }
+    ensures few { result ≤ 65536 }
+{
+    (events as usize + 63) / 64 * 64
+}
+
 impl<P: Carry> Space<P> {
-    ghost use Rattle.chord_rule.specs.Moment.{head_at};
+    ghost use Rattle.chord_rule.specs.Layout.{cell_at, place_at, head_at};
     ghost use Rattle.chord_space.specs.Desks.{view, heads, space_code, space_limits, IsDeskOf};
 
     /// A table for the runs of the code under these limits, and its first desk. It takes memory for a slot and two words an event, and
@@ -108,7 +130,8 @@ impl<P: Carry> Space<P> {
         let events = limits.events;
         let count = events as usize;
         let heads = heads_of(code);
-        let words = zeros(alloc, 1 + 2 * count + heads * count, count)?;
+        let breadth = breadth_of(events);
+        let words = zeros(alloc, 1 + 2 * breadth + heads * breadth, count)?;
         let key = Key {
             code: Snapshot::of(code),
             limits: *limits,
@@ -118,17 +141,36 @@ impl<P: Carry> Space<P> {
             table,
             events,
             heads,
+            breadth,
         };
         Ok((space, Desk { seat, above: 0 }))
     }
 
-    /// The word of the head for this method of the object: the heads lie behind the counter, the cells and the place words.
+    /// Which word of the table is the cell of this number: the cells lie behind the counter.
+    pub(crate) fn cell_word(&self, number: u32) -> usize
+        requires bounds { number < self.now.events }
+        ensures word { result ≡ cell_at number }
+        ensures inside { result < self.now.table.shared.table_id.words }
+    {
+        1 + spread_of(number)
+    }
+
+    /// Which word is the place word of this number: they lie behind the cells.
+    pub(crate) fn place_word(&self, number: u32) -> usize
+        requires bounds { number < self.now.events }
+        ensures word { result ≡ place_at self.now.events number }
+        ensures inside { result < self.now.table.shared.table_id.words }
+    {
+        1 + self.breadth + spread_of(number)
+    }
+
+    /// Which word is the head for this method of the object: they lie behind the place words.
     pub(crate) fn head_word(&self, object: Object, method: u8) -> usize
         requires bounds { (object.number < self.now.events) × (method < heads self.now) }
         ensures word { result ≡ head_at self.now.events (heads self.now) object.number method }
         ensures inside { result < self.now.table.shared.table_id.words }
     {
-        let first = 1 + 2 * self.events as usize;
-        first + object.number as usize * self.heads + method as usize
+        let first = 1 + 2 * self.breadth;
+        first + spread_of(object.number) * self.heads + method as usize
     }
 }

@@ -12,7 +12,7 @@ use Rattle.chord_rule.specs.Bags.{head_number}
 use Rattle.chord_rule.specs.Kinds.{saw_head}
 use Rattle.chord_rule.specs.Looks.{LastHead}
 use Rattle.chord_rule.specs.Made.{key}
-use Rattle.chord_rule.specs.Moment.{head_at}
+use Rattle.chord_rule.specs.Layout.{head_at}
 use Rattle.chord_rule.specs.Tells.{bypasses_head}
 use Rattle.chord_rule.proofs.Bypassing.{bypass_head_step}
 use Rattle.chord_space.specs.Desks.{view}
@@ -27,7 +27,7 @@ pub compare_exchange-found-requires : goal.compare_exchange-found-requires
 compare_exchange-found-requires g c = let sized = c.args.self.now.sized in let key = c.args.self.now.table.shared.key in let n : ℕ = key.limits.events in let seat = c.args.desk.now.seat in let live = c.args.desk.now.settled.6 in
     let keeps : g.row.P.Denot → Type 0 = λ q. g.P.Carry.keeps_to q key.code.value key.limits in let p = code_program key.code.value key.limits in
     let from : ℕ = c.args.from in let to = c.args.to in let bounds = c.requires.bounds in let o = c.args.object in let j : ℕ = c.args.method in let width : ℕ = widest key.code.value in
-    let word = c.head_word-head.ensures.word in let at : head_at n width o.number j ≡ c.head_word-head.result = omega (arith, word, sized.0) in (
+    let word = c.head_word-head.ensures.word in let at : head_at n width o.number j ≡ c.head_word-head.result = ap (λ (e : ℕ). head_at e width o.number j) sized.0 ∙ sym word in (
       c.requires.desk,
       c.head_word-head.ensures.inside,
       subst (λ (y : ℕ × ℕ × ℕ × ℕ × Object × ℕ). Allows (Ruled g.P.Carry.entries g.P.Carry.arguments g.P.Carry.keeps_to key.code.value key.limits) y.0 seat.id seat.me y.1 (λ x. either (eqb x y.2) y.3 x) (bypasses_head y.4 y.5 (step y.0 y.1 y.2 y.3 none) seat.me))

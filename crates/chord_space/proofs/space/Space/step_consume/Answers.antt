@@ -1,4 +1,4 @@
-use Rattle.std.proofs.Common.{◌≡◌, ℕ, ◌+◌, ◌<◌, [], ◌∷◌, Option, Some, None, IsSome, refl, sym, ap, ◌∙◌, subst, arith}
+use Rattle.std.proofs.Common.{◌≡◌, ℕ, ◌<◌, [], ◌∷◌, Option, Some, None, IsSome, refl, sym, ap, ◌∙◌, subst, arith}
 use mathlib.Core.Option.{none}
 use mathlib.Core.Path.{Path}
 use Rattle.atomic_table.specs.Table.{Me, Allows, step, rest}
@@ -14,6 +14,7 @@ use Rattle.chord_rule.specs.Claims.{HasThe}
 use Rattle.chord_base.specs.Story.{AllBelow}
 use Rattle.chord_rule.specs.Kinds as kinds
 use Rattle.chord_rule.specs.Kinds.{saw}
+use Rattle.chord_rule.specs.Layout.{cell_at}
 use Rattle.chord_rule.specs.Tells.{word, a_word, consumes, slot_returns}
 use Rattle.chord_rule.proofs.Lists.{some_is}
 use Rattle.chord_rule.proofs.Moving.{consume_step, empty_step}
@@ -33,38 +34,38 @@ store-requires g c = let sized = c.args.self.now.sized in let key = c.args.self.
     let num = claimed.3 in let low : claim.number < n = omega arith in
     let stored : word a_cell.Consumed claim.next ≡ c.consumed_of-word.result = sym (c.consumed_of-word.ensures claim.next (c.claimed_word-claimed.ensures.word claim claimed.2 num).0) in (
       same.0.0 ∙ c.requires.desk,
-      omega arith,
-      subst (λ (y : ℕ × ℕ × ℕ × Parts × Limits). Allows (Ruled g.P.Carry.entries g.P.Carry.arguments g.P.Carry.keeps_to key.code.value key.limits) y.0 seat.id seat.me y.1 (λ _. y.2) (λ _. consumes (code_program y.3 y.4) g.P.Carry.entries g.P.Carry.arguments (λ q. g.P.Carry.keeps_to q y.3 y.4) (step y.0 y.1 y.2 0 none) seat.me y.2)) (λ k. ((sized.0 ∙ sym sized.2) k, 1 + num k, stored k, sym governed.0 k, sym governed.1 k))
-          (under_rule g.P.Carry.entries g.P.Carry.arguments g.P.Carry.keeps_to key.code.value key.limits n seat.id seat.me (1 + claim.number) (λ _. word a_cell.Consumed claim.next) (λ _. consumes p g.P.Carry.entries g.P.Carry.arguments keeps (step n (1 + claim.number) (word a_cell.Consumed claim.next) 0 none) seat.me (word a_cell.Consumed claim.next))
+      c.cell_word-cell.ensures.inside,
+      subst (λ (y : ℕ × ℕ × ℕ × Parts × Limits). Allows (Ruled g.P.Carry.entries g.P.Carry.arguments g.P.Carry.keeps_to key.code.value key.limits) y.0 seat.id seat.me y.1 (λ _. y.2) (λ _. consumes (code_program y.3 y.4) g.P.Carry.entries g.P.Carry.arguments (λ q. g.P.Carry.keeps_to q y.3 y.4) (step y.0 y.1 y.2 0 none) seat.me y.2)) (λ k. ((sized.0 ∙ sym sized.2) k, (ap (λ (n : ℕ). cell_at n) num ∙ sym c.cell_word-cell.ensures.word) k, stored k, sym governed.0 k, sym governed.1 k))
+          (under_rule g.P.Carry.entries g.P.Carry.arguments g.P.Carry.keeps_to key.code.value key.limits n seat.id seat.me (cell_at claim.number) (λ _. word a_cell.Consumed claim.next) (λ _. consumes p g.P.Carry.entries g.P.Carry.arguments keeps (step n (cell_at claim.number) (word a_cell.Consumed claim.next) 0 none) seat.me (word a_cell.Consumed claim.next))
           (consume_step g.P.Carry.entries g.P.Carry.arguments keeps p n _ (omega arith) (omega arith) seat.id seat.me claim claimed.1 live low has claimed.4 d.settled.7)),
     )
 
 pub exchange-parcel-requires : goal.exchange-parcel-requires
 exchange-parcel-requires g c = let claimed = c.requires.fired in let claim = claimed.0 in let f = claimed.1 in let same = c.claimed_word-claimed.ensures.desk in let i : ℕ = c.args.i in let d = c.claimed_word-claimed.new.desk in let settled = d.settled in let num = claimed.3 in
     let has : HasThe claim d.seat.me.0.claims = subst (λ (v : View). HasThe claim v.claims) (sym same.1) claimed.2 in
-    let told = c.store.ensures.2 claim f has (ap (λ (k : ℕ). 1 + k) (sym num)) claimed.4 in
+    let told = c.store.ensures.2 claim f has (c.cell_word-cell.ensures.word ∙ ap (λ (k : ℕ). cell_at k) (sym num)) claimed.4 in
     let held : c.store.new.seat.me.1 ≡ (i, Some told.0) ∷ [] = told.2 ∙ (λ k. (num k, Some told.0) ∷ settled.0 k) in
     (c.store.ensures.0 ∙ same.0.0 ∙ c.requires.desk, (Some told.0, held ∙ (λ k. (i, Some told.0) ∷ sym (ap rest held) k)))
 
 pub load-requires : goal.load-requires
-load-requires g c = let sized = c.args.self.now.sized in let key = c.args.self.now.table.shared.key in let n : ℕ = key.limits.events in let keeps : g.row.P.Denot → Type 0 = λ q. g.P.Carry.keeps_to q key.code.value key.limits in let p = code_program key.code.value key.limits in
+load-requires g c = let sized = c.args.self.now.sized in let key = c.args.self.now.table.shared.key in let n : ℕ = key.limits.events in let keeps : g.row.P.Denot → Type 0 = λ q. g.P.Carry.keeps_to q key.code.value key.limits in let p = code_program key.code.value key.limits in let bounds = c.requires.bounds in
     let claimed = c.requires.fired in let claim = claimed.0 in let f = claimed.1 in let same = c.claimed_word-claimed.ensures.desk in let i : ℕ = c.args.i in let d = c.claimed_word-claimed.new.desk in let settled = d.settled in let num = claimed.3 in
     let has : HasThe claim d.seat.me.0.claims = subst (λ (v : View). HasThe claim v.claims) (sym same.1) claimed.2 in
-    let told = c.store.ensures.2 claim f has (ap (λ (k : ℕ). 1 + k) (sym num)) claimed.4 in
+    let told = c.store.ensures.2 claim f has (c.cell_word-cell.ensures.word ∙ ap (λ (k : ℕ). cell_at k) (sym num)) claimed.4 in
     let held : c.store.new.seat.me.1 ≡ (i, Some told.0) ∷ [] = told.2 ∙ (λ k. (num k, Some told.0) ∷ settled.0 k) in
     let v : View = saw (kinds.consumed d.seat.me.0 claim.number (g.P.Carry.entries told.0)) claim.number (a_word a_cell.Consumed claim.next) in
     let me : c.exchange-parcel.new.seat.me ≡ (v, (i, None) ∷ []) = c.exchange-parcel.ensures.3 ∙ (λ k. (told.1 k, (i, None) ∷ ap rest held k)) in
     let seat = c.exchange-parcel.new.seat in (
       c.exchange-parcel.ensures.0 ∙ c.store.ensures.0 ∙ same.0.0 ∙ c.requires.desk,
-      omega arith,
-      subst (λ (y : ℕ × Me (Option g.row.P.Denot) View). Allows (Ruled g.P.Carry.entries g.P.Carry.arguments g.P.Carry.keeps_to key.code.value key.limits) y.0 seat.id y.1 0 (λ x. x) (slot_returns (step y.0 0 0 0 none) y.1)) (λ k. ((sized.0 ∙ sym sized.2) k, sym me k))
-          (under_rule g.P.Carry.entries g.P.Carry.arguments g.P.Carry.keeps_to key.code.value key.limits n seat.id (v, (i, None) ∷ []) 0 (λ x. x) (slot_returns (step n 0 0 0 none) (v, (i, None) ∷ [])) (empty_step g.P.Carry.entries g.P.Carry.arguments keeps p n _ (omega arith) (omega arith) seat.id v i settled.6 (ap (λ (k : ℕ). Some k) num))),
+      c.cell_word-cell.ensures.inside,
+      subst (λ (y : ℕ × Me (Option g.row.P.Denot) View × ℕ). Allows (Ruled g.P.Carry.entries g.P.Carry.arguments g.P.Carry.keeps_to key.code.value key.limits) y.0 seat.id y.1 y.2 (λ x. x) (slot_returns (step y.0 y.2 0 0 none) y.1)) (λ k. ((sized.0 ∙ sym sized.2) k, sym me k, sym c.cell_word-cell.ensures.word k))
+          (under_rule g.P.Carry.entries g.P.Carry.arguments g.P.Carry.keeps_to key.code.value key.limits n seat.id (v, (i, None) ∷ []) (cell_at i) (λ x. x) (slot_returns (step n (cell_at i) 0 0 none) (v, (i, None) ∷ [])) (empty_step g.P.Carry.entries g.P.Carry.arguments keeps p n _ (omega arith) (omega arith) seat.id v i settled.6 (omega arith) (ap (λ (k : ℕ). Some k) num))),
     )
 
 pub invariant_of-desk : goal.invariant_of-desk
 invariant_of-desk g c = let claimed = c.requires.fired in let claim = claimed.0 in let f = claimed.1 in let same = c.claimed_word-claimed.ensures.desk in let i : ℕ = c.args.i in let d = c.claimed_word-claimed.new.desk in let settled = d.settled in let num = claimed.3 in
     let has : HasThe claim d.seat.me.0.claims = subst (λ (v : View). HasThe claim v.claims) (sym same.1) claimed.2 in
-    let told = c.store.ensures.2 claim f has (ap (λ (k : ℕ). 1 + k) (sym num)) claimed.4 in
+    let told = c.store.ensures.2 claim f has (c.cell_word-cell.ensures.word ∙ ap (λ (k : ℕ). cell_at k) (sym num)) claimed.4 in
     let held : c.store.new.seat.me.1 ≡ (i, Some told.0) ∷ [] = told.2 ∙ (λ k. (num k, Some told.0) ∷ settled.0 k) in
     let v : View = saw (kinds.consumed d.seat.me.0 claim.number (g.P.Carry.entries told.0)) claim.number (a_word a_cell.Consumed claim.next) in
     let me : c.exchange-parcel.new.seat.me ≡ (v, (i, None) ∷ []) = c.exchange-parcel.ensures.3 ∙ (λ k. (told.1 k, (i, None) ∷ ap rest held k)) in
@@ -85,14 +86,14 @@ invariant_of-desk g c = let claimed = c.requires.fired in let claim = claimed.0 
 pub unwrap-requires : goal.unwrap-requires
 unwrap-requires g c = let claimed = c.requires.fired in let claim = claimed.0 in let f = claimed.1 in let same = c.claimed_word-claimed.ensures.desk in let i : ℕ = c.args.i in let d = c.claimed_word-claimed.new.desk in let settled = d.settled in let num = claimed.3 in
     let has : HasThe claim d.seat.me.0.claims = subst (λ (v : View). HasThe claim v.claims) (sym same.1) claimed.2 in
-    let told = c.store.ensures.2 claim f has (ap (λ (k : ℕ). 1 + k) (sym num)) claimed.4 in
+    let told = c.store.ensures.2 claim f has (c.cell_word-cell.ensures.word ∙ ap (λ (k : ℕ). cell_at k) (sym num)) claimed.4 in
     let held : c.store.new.seat.me.1 ≡ (i, Some told.0) ∷ [] = told.2 ∙ (λ k. (num k, Some told.0) ∷ settled.0 k) in
     subst (λ (r : Option g.row.P.Denot). IsSome r) (out_slot i (Some told.0) c.exchange-parcel.result c.store.new.seat.me.1 [] (rest c.store.new.seat.me.1) held c.exchange-parcel.ensures.2) refl
 
 pub returns-clause-taken : goal.returns-clause-taken
 returns-clause-taken g c = let claimed = c.requires.fired in let claim = claimed.0 in let f = claimed.1 in let same = c.claimed_word-claimed.ensures.desk in let i : ℕ = c.args.i in let d = c.claimed_word-claimed.new.desk in let settled = d.settled in let num = claimed.3 in
     let has : HasThe claim d.seat.me.0.claims = subst (λ (v : View). HasThe claim v.claims) (sym same.1) claimed.2 in
-    let told = c.store.ensures.2 claim f has (ap (λ (k : ℕ). 1 + k) (sym num)) claimed.4 in
+    let told = c.store.ensures.2 claim f has (c.cell_word-cell.ensures.word ∙ ap (λ (k : ℕ). cell_at k) (sym num)) claimed.4 in
     let held : c.store.new.seat.me.1 ≡ (i, Some told.0) ∷ [] = told.2 ∙ (λ k. (num k, Some told.0) ∷ settled.0 k) in
     let v : View = saw (kinds.consumed d.seat.me.0 claim.number (g.P.Carry.entries told.0)) claim.number (a_word a_cell.Consumed claim.next) in
     let me : c.exchange-parcel.new.seat.me ≡ (v, (i, None) ∷ []) = c.exchange-parcel.ensures.3 ∙ (λ k. (told.1 k, (i, None) ∷ ap rest held k)) in
@@ -105,7 +106,7 @@ returns-clause-taken g c = let claimed = c.requires.fired in let claim = claimed
 pub returns-clause-parcel : goal.returns-clause-parcel
 returns-clause-parcel g c = let claimed = c.requires.fired in let claim = claimed.0 in let f = claimed.1 in let same = c.claimed_word-claimed.ensures.desk in let i : ℕ = c.args.i in let d = c.claimed_word-claimed.new.desk in let settled = d.settled in let num = claimed.3 in
     let has : HasThe claim d.seat.me.0.claims = subst (λ (v : View). HasThe claim v.claims) (sym same.1) claimed.2 in
-    let told = c.store.ensures.2 claim f has (ap (λ (k : ℕ). 1 + k) (sym num)) claimed.4 in
+    let told = c.store.ensures.2 claim f has (c.cell_word-cell.ensures.word ∙ ap (λ (k : ℕ). cell_at k) (sym num)) claimed.4 in
     let held : c.store.new.seat.me.1 ≡ (i, Some told.0) ∷ [] = told.2 ∙ (λ k. (num k, Some told.0) ∷ settled.0 k) in
     let was : Path (Option g.row.P.Denot) (Some told.0) (Some c.unwrap.result) = out_slot i (Some told.0) c.exchange-parcel.result c.store.new.seat.me.1 [] (rest c.store.new.seat.me.1) held c.exchange-parcel.ensures.2 ∙ c.unwrap.ensures in
     let it : told.0 ≡ c.unwrap.result = (let e = was in cc) in
@@ -115,7 +116,7 @@ returns-clause-parcel g c = let claimed = c.requires.fired in let claim = claime
 pub returns-clause-below : goal.returns-clause-below
 returns-clause-below g c = let claimed = c.requires.fired in let claim = claimed.0 in let f = claimed.1 in let same = c.claimed_word-claimed.ensures.desk in let i : ℕ = c.args.i in let d = c.claimed_word-claimed.new.desk in let settled = d.settled in let num = claimed.3 in
     let has : HasThe claim d.seat.me.0.claims = subst (λ (v : View). HasThe claim v.claims) (sym same.1) claimed.2 in
-    let told = c.store.ensures.2 claim f has (ap (λ (k : ℕ). 1 + k) (sym num)) claimed.4 in
+    let told = c.store.ensures.2 claim f has (c.cell_word-cell.ensures.word ∙ ap (λ (k : ℕ). cell_at k) (sym num)) claimed.4 in
     let held : c.store.new.seat.me.1 ≡ (i, Some told.0) ∷ [] = told.2 ∙ (λ k. (num k, Some told.0) ∷ settled.0 k) in
     let was : Path (Option g.row.P.Denot) (Some told.0) (Some c.unwrap.result) = out_slot i (Some told.0) c.exchange-parcel.result c.store.new.seat.me.1 [] (rest c.store.new.seat.me.1) held c.exchange-parcel.ensures.2 ∙ c.unwrap.ensures in
     let it : told.0 ≡ c.unwrap.result = (let e = was in cc) in
@@ -126,7 +127,7 @@ returns-clause-below g c = let claimed = c.requires.fired in let claim = claimed
 pub returns-clause-task : goal.returns-clause-task
 returns-clause-task g c = let claimed = c.requires.fired in let claim = claimed.0 in let f = claimed.1 in let same = c.claimed_word-claimed.ensures.desk in let i : ℕ = c.args.i in let d = c.claimed_word-claimed.new.desk in let settled = d.settled in let num = claimed.3 in
     let has : HasThe claim d.seat.me.0.claims = subst (λ (v : View). HasThe claim v.claims) (sym same.1) claimed.2 in
-    let told = c.store.ensures.2 claim f has (ap (λ (k : ℕ). 1 + k) (sym num)) claimed.4 in
+    let told = c.store.ensures.2 claim f has (c.cell_word-cell.ensures.word ∙ ap (λ (k : ℕ). cell_at k) (sym num)) claimed.4 in
     let held : c.store.new.seat.me.1 ≡ (i, Some told.0) ∷ [] = told.2 ∙ (λ k. (num k, Some told.0) ∷ settled.0 k) in
     let was : Path (Option g.row.P.Denot) (Some told.0) (Some c.unwrap.result) = out_slot i (Some told.0) c.exchange-parcel.result c.store.new.seat.me.1 [] (rest c.store.new.seat.me.1) held c.exchange-parcel.ensures.2 ∙ c.unwrap.ensures in
     let it : told.0 ≡ c.unwrap.result = (let e = was in cc) in
@@ -135,7 +136,7 @@ returns-clause-task g c = let claimed = c.requires.fired in let claim = claimed.
 pub returns-clause-comes : goal.returns-clause-comes
 returns-clause-comes g c = let claimed = c.requires.fired in let claim = claimed.0 in let f = claimed.1 in let same = c.claimed_word-claimed.ensures.desk in let i : ℕ = c.args.i in let d = c.claimed_word-claimed.new.desk in let settled = d.settled in let num = claimed.3 in
     let has : HasThe claim d.seat.me.0.claims = subst (λ (v : View). HasThe claim v.claims) (sym same.1) claimed.2 in
-    let told = c.store.ensures.2 claim f has (ap (λ (k : ℕ). 1 + k) (sym num)) claimed.4 in
+    let told = c.store.ensures.2 claim f has (c.cell_word-cell.ensures.word ∙ ap (λ (k : ℕ). cell_at k) (sym num)) claimed.4 in
     let held : c.store.new.seat.me.1 ≡ (i, Some told.0) ∷ [] = told.2 ∙ (λ k. (num k, Some told.0) ∷ settled.0 k) in
     let was : Path (Option g.row.P.Denot) (Some told.0) (Some c.unwrap.result) = out_slot i (Some told.0) c.exchange-parcel.result c.store.new.seat.me.1 [] (rest c.store.new.seat.me.1) held c.exchange-parcel.ensures.2 ∙ c.unwrap.ensures in
     let it : told.0 ≡ c.unwrap.result = (let e = was in cc) in

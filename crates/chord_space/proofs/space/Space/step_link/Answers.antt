@@ -1,4 +1,4 @@
-use Rattle.std.proofs.Common.{◌≡◌, ◌⊎◌, ℕ, ◌+◌, ◌<◌, List, [], ◌∷◌, Option, Some, None, refl, sym, ap, ◌∙◌, subst, arith, ⊎_elim, inl, inr}
+use Rattle.std.proofs.Common.{◌≡◌, ◌⊎◌, ℕ, ◌<◌, List, [], ◌∷◌, Option, Some, None, refl, sym, ap, ◌∙◌, subst, arith, ⊎_elim, inl, inr}
 use mathlib.Core.Option.{none}
 use Rattle.atomic_table.specs.Table.{Me, Allows, step, rest}
 use Rattle.chord_base.specs.declared.event.Entry.{Entry}
@@ -12,8 +12,9 @@ use Rattle.chord_rule.specs.Bags.{head_number}
 use Rattle.chord_rule.specs.Hands.{hand, IsUnlinked}
 use Rattle.chord_rule.specs.Kinds.{address_set, flown, saw_head}
 use Rattle.chord_rule.specs.Made.{key}
-use Rattle.chord_rule.specs.Moment.{LinkOk, head_at}
+use Rattle.chord_rule.specs.Moment.{LinkOk}
 use Rattle.chord_rule.specs.Numbers.{HasNumber}
+use Rattle.chord_rule.specs.Layout.{place_at, head_at}
 use Rattle.chord_rule.specs.Tells.{places, link_adds}
 use Rattle.chord_space.specs.Widest.{widest}
 use Rattle.chord_space.specs.Ruled.{Ruled}
@@ -27,31 +28,31 @@ pub store-requires : goal.store-requires
 store-requires g c = let sized = c.args.self.now.sized in let key = c.args.self.now.table.shared.key in let n : ℕ = key.limits.events in let seat = c.args.desk.now.seat in let i : ℕ = c.args.m in let o = c.args.object in let j : ℕ = c.args.method in
     let may = c.requires.link in let bounds = c.requires.bounds in
     let keeps : g.row.P.Denot → Type 0 = λ q. g.P.Carry.keeps_to q key.code.value key.limits in let p = code_program key.code.value key.limits in
-    let at : 1 + n + i ≡ 1 + c.args.self.now.events + i = omega arith in (
+    let at : place_at n i ≡ c.place_word.result = ap (λ (e : ℕ). place_at e i) sized.0 ∙ sym c.place_word.ensures.word in (
       c.requires.desk,
-      omega arith,
+      c.place_word.ensures.inside,
       subst (λ (y : ℕ × ℕ × ℕ). Allows (Ruled g.P.Carry.entries g.P.Carry.arguments g.P.Carry.keeps_to key.code.value key.limits) y.0 seat.id seat.me y.1 (λ _. y.2) (λ _. places (step y.0 y.1 y.2 0 none) seat.me y.2)) (λ k. ((sized.0 ∙ sym sized.2) k, at k, sym c.pack_place.ensures.value k))
-          (under_rule g.P.Carry.entries g.P.Carry.arguments g.P.Carry.keeps_to key.code.value key.limits n seat.id seat.me (1 + n + i) (λ _. place_word o j) (λ _. places (step n (1 + n + i) (place_word o j) 0 none) seat.me (place_word o j)) (place_step g.P.Carry.entries g.P.Carry.arguments keeps p n _ (omega arith) (omega arith) seat.id seat.me i may.entry (record { object = o; method = j; arguments = g.P.Carry.arguments c.args.parcel }) c.args.desk.now.settled.6 (omega arith) (omega arith) (omega arith, omega arith, omega arith) (omega arith) may.kept may.numbered may.message may.fresh c.args.desk.now.settled.3)),
+          (under_rule g.P.Carry.entries g.P.Carry.arguments g.P.Carry.keeps_to key.code.value key.limits n seat.id seat.me (place_at n i) (λ _. place_word o j) (λ _. places (step n (place_at n i) (place_word o j) 0 none) seat.me (place_word o j)) (place_step g.P.Carry.entries g.P.Carry.arguments keeps p n _ (omega arith) (omega arith) seat.id seat.me i may.entry (record { object = o; method = j; arguments = g.P.Carry.arguments c.args.parcel }) c.args.desk.now.settled.6 (omega arith) (omega arith) (omega arith, omega arith, omega arith) (omega arith) may.kept may.numbered may.message may.fresh c.args.desk.now.settled.3)),
     )
 
 pub exchange-requires : goal.exchange-requires
-exchange-requires g c = let sized = c.args.self.now.sized in let i : ℕ = c.args.m in let told = c.store.ensures.2 i (omega arith) in
+exchange-requires g c = let sized = c.args.self.now.sized in let i : ℕ = c.args.m in let told = c.store.ensures.2 i (c.place_word.ensures.word ∙ ap (λ (e : ℕ). place_at e i) (sym sized.2)) in
     let held : c.store.new.seat.me.1 ≡ (i, None) ∷ [] = told.1 ∙ ap (λ (xs : List (ℕ × Option g.row.P.Denot)). (i, None) ∷ xs) c.args.desk.now.settled.0 in
     (c.store.ensures.0 ∙ c.requires.desk, (None, held ∙ (λ k. (i, None) ∷ sym (ap rest held) k)))
 
 pub unreachable-requires : goal.unreachable-requires
-unreachable-requires g c = let sized = c.args.self.now.sized in let i : ℕ = c.args.m in let told = c.store.ensures.2 i (omega arith) in
+unreachable-requires g c = let sized = c.args.self.now.sized in let i : ℕ = c.args.m in let told = c.store.ensures.2 i (c.place_word.ensures.word ∙ ap (λ (e : ℕ). place_at e i) (sym sized.2)) in
     let held : c.store.new.seat.me.1 ≡ (i, None) ∷ [] = told.1 ∙ ap (λ (xs : List (ℕ × Option g.row.P.Denot)). (i, None) ∷ xs) c.args.desk.now.settled.0 in
     never_both i c.in-Some.field-0 c.exchange.result c.store.new.seat.me.1 (rest c.store.new.seat.me.1) held c.exchange.ensures.2 c.in-Some.is
 
 pub swap-desk-requires : goal.swap-desk-requires
 swap-desk-requires g c = let sized = c.args.self.now.sized in let shared_key = c.args.self.now.table.shared.key in let n : ℕ = shared_key.limits.events in let i : ℕ = c.args.m in let q : g.row.P.Denot = c.args.parcel in let o = c.args.object in let j : ℕ = c.args.method in
     let may = c.requires.link in let bounds = c.requires.bounds in let keeps : g.row.P.Denot → Type 0 = λ q. g.P.Carry.keeps_to q shared_key.code.value shared_key.limits in let p = code_program shared_key.code.value shared_key.limits in
-    let told = c.store.ensures.2 i (omega arith) in
+    let told = c.store.ensures.2 i (c.place_word.ensures.word ∙ ap (λ (e : ℕ). place_at e i) (sym sized.2)) in
     let held : c.store.new.seat.me.1 ≡ (i, None) ∷ [] = told.1 ∙ ap (λ (xs : List (ℕ × Option g.row.P.Denot)). (i, None) ∷ xs) c.args.desk.now.settled.0 in
     let v : View = address_set c.args.desk.now.seat.me.0 i in
     let me : c.exchange.new.seat.me ≡ (v, (i, Some q) ∷ []) = c.exchange.ensures.3 ∙ (λ k. (told.0 k, (i, Some q) ∷ ap rest held k)) in
-    let width : ℕ = widest shared_key.code.value in let word = c.head_word-head.ensures.word in let head : head_at n width o.number j ≡ c.head_word-head.result = omega (arith, word, sized.0) in
+    let width : ℕ = widest shared_key.code.value in let word = c.head_word-head.ensures.word in let head : head_at n width o.number j ≡ c.head_word-head.result = ap (λ (e : ℕ). head_at e width o.number j) sized.0 ∙ sym word in
     let x : Message = record { object = o; method = j; arguments = g.P.Carry.arguments q } in
     let others : (e : Entry) (y : Message) → IsIn e (g.P.Carry.entries q) → message_of e.what ≡ Some y → (e.number ≡ i) ⊎ (IsUnlinked (hand v) e.number → ⊥) = (λ e y is says. ⊎_elim (λ same. inl same)
     (λ old. inr (λ un. ⊎_elim (λ h. old (has_without e.number i c.args.desk.now.seat.me.0.fresh h).1) (λ s. let same : i ≡ e.number = (let z = s in cc) in old (subst (λ (k : ℕ). HasNumber k c.args.desk.now.seat.me.0.fresh) same may.fresh)) un)) (may.others e y is says)) in (
@@ -65,7 +66,7 @@ swap-desk-requires g c = let sized = c.args.self.now.sized in let shared_key = c
 
 pub invariant_of-desk : goal.invariant_of-desk
 invariant_of-desk g c = let sized = c.args.self.now.sized in let i : ℕ = c.args.m in let q : g.row.P.Denot = c.args.parcel in let settled = c.args.desk.now.settled in
-    let told = c.store.ensures.2 i (omega arith) in
+    let told = c.store.ensures.2 i (c.place_word.ensures.word ∙ ap (λ (e : ℕ). place_at e i) (sym sized.2)) in
     let held : c.store.new.seat.me.1 ≡ (i, None) ∷ [] = told.1 ∙ ap (λ (xs : List (ℕ × Option g.row.P.Denot)). (i, None) ∷ xs) settled.0 in
     let v : View = address_set c.args.desk.now.seat.me.0 i in
     let me : c.exchange.new.seat.me ≡ (v, (i, Some q) ∷ []) = c.exchange.ensures.3 ∙ (λ k. (told.0 k, (i, Some q) ∷ ap rest held k)) in
@@ -88,7 +89,7 @@ invariant_of-desk g c = let sized = c.args.self.now.sized in let i : ℕ = c.arg
 
 pub returns-clause-linked : goal.returns-clause-linked
 returns-clause-linked g c = let sized = c.args.self.now.sized in let i : ℕ = c.args.m in let q : g.row.P.Denot = c.args.parcel in
-    let told = c.store.ensures.2 i (omega arith) in
+    let told = c.store.ensures.2 i (c.place_word.ensures.word ∙ ap (λ (e : ℕ). place_at e i) (sym sized.2)) in
     let held : c.store.new.seat.me.1 ≡ (i, None) ∷ [] = told.1 ∙ ap (λ (xs : List (ℕ × Option g.row.P.Denot)). (i, None) ∷ xs) c.args.desk.now.settled.0 in
     let v : View = address_set c.args.desk.now.seat.me.0 i in
     let me : c.exchange.new.seat.me ≡ (v, (i, Some q) ∷ []) = c.exchange.ensures.3 ∙ (λ k. (told.0 k, (i, Some q) ∷ ap rest held k)) in

@@ -9,7 +9,7 @@ use Rattle.chord_rule.specs.declared.view.View.{View}
 use Rattle.chord_rule.specs.Bags.{head_number}
 use Rattle.chord_rule.specs.Heading.{WasHead}
 use Rattle.chord_rule.specs.Made.{key}
-use Rattle.chord_rule.specs.Moment.{head_at}
+use Rattle.chord_rule.specs.Layout.{head_at}
 use Rattle.chord_rule.specs.Tells.{looks_head}
 use Rattle.chord_rule.proofs.Seeing.{look_head_step}
 use Rattle.chord_space.specs.Widest.{widest}
@@ -22,7 +22,7 @@ pub load-found-requires : goal.load-found-requires
 load-found-requires g c = let sized = c.args.self.now.sized in let key = c.args.self.now.table.shared.key in let n : ℕ = key.limits.events in let seat = c.args.desk.now.seat in let live = c.args.desk.now.settled.6 in
     let keeps : g.row.P.Denot → Type 0 = λ q. g.P.Carry.keeps_to q key.code.value key.limits in let p = code_program key.code.value key.limits in
     let o = c.args.object in let j : ℕ = c.args.method in let bounds = c.requires.bounds in let width : ℕ = widest key.code.value in
-    let word = c.head_word-head.ensures.word in let at : head_at n width o.number j ≡ c.head_word-head.result = omega (arith, word, sized.0) in (
+    let word = c.head_word-head.ensures.word in let at : head_at n width o.number j ≡ c.head_word-head.result = ap (λ (e : ℕ). head_at e width o.number j) sized.0 ∙ sym word in (
       c.requires.desk,
       c.head_word-head.ensures.inside,
       subst (λ (y : ℕ × ℕ × Object × ℕ × Parts × Limits). Allows (Ruled g.P.Carry.entries g.P.Carry.arguments g.P.Carry.keeps_to key.code.value key.limits) y.0 seat.id seat.me y.1 (λ x. x) (looks_head g.P.Carry.entries g.P.Carry.arguments (λ q. g.P.Carry.keeps_to q y.4 y.5) (code_program y.4 y.5) y.2 y.3 (step y.0 y.1 0 0 none) seat.me)) (λ k. ((sized.0 ∙ sym sized.2) k, at k, sym c.requires.address.0 k, sym c.requires.address.1 k, sym c.requires.address.2 k, sym c.requires.address.3 k))
