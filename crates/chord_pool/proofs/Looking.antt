@@ -8,6 +8,7 @@ use Rattle.chord_rule.specs.declared.view.View.{View}
 use Rattle.chord_rule.specs.Kinds.{saw}
 use Rattle.chord_rule.specs.Tells.{a_word}
 use Rattle.chord_rule.specs.Ways.{LastSeen}
+use Rattle.chord_roll.specs.declared.card.Card.{Card}
 use Rattle.chord_roll.specs.Cards.{counts}
 use Rattle.chord_space.specs.declared.space.Space.{Space}
 use Rattle.chord_space.specs.Desks.{view}
@@ -20,7 +21,7 @@ use Rattle.chord_worker.specs.declared.worker.Worker.{Worker}
 use Rattle.chord_worker.specs.Resting.{IsSeen}
 use Rattle.chord_worker.specs.Stepping.{PlaysFiring}
 use Rattle.chord_pool.specs.declared.player.Player.{Player}
-use Rattle.chord_pool.specs.Players.{is_ready, count_ready, AreAmong, AreUnready, FoundNoneBelow, LookedOnce, LookedThrough, SawUnready, KnowsCount, HasStarted, BeginsLook, HasFoundNone}
+use Rattle.chord_pool.specs.Players.{is_ready, count_ready, AreAmong, AreUnready, FoundNoneBelow, LookedOnce, LookedThrough, SawUnready, KnowsCount, HasStarted, BeginsLook, HasFoundNone, HasLooked}
 
 -- a look at a cell that is not ready
 pub seen_once : (v w : View) (i : ℕ) (x : Word) → IsSeen v w i x → x.cell ≢ Ready → SawUnready v w i
@@ -179,3 +180,21 @@ found_none s x b l y all worker known begins as_counted none kept through next u
   still = rw same_worker (none ∙ sym idle, kept ∙ ap (λ (w : Worker). (view w.desk).kept) worker);
   knows_count = (count.0, rw same_worker count.1, same_known ∙ count.2);
 }
+
+-- a look of a player with another card, which counted where this one does
+pub looked_by : (knows : ℕ → Type 0) (s : Space Parcel) (x y : Player) (k : Card) → counts k ≡ counts x.card → HasLooked knows s (record x { card = k }) y → HasLooked knows s x y
+looked_by knows s x y k same (inl found) = inl (record { plays = found.plays; onward = found.onward; misses = found.misses })
+looked_by knows s x y k same (inr none) = inr (record {
+  from = none.from;
+  misses = none.misses;
+  below = none.below;
+  begins = record { near = none.begins.near; far = none.begins.far };
+  below_is = none.below_is ∙ rw same refl;
+  through = none.through;
+  none = none.none;
+  place = none.place;
+  missed = λ not. none.missed (same ∙ not);
+  uncounted = λ yes. none.uncounted (same ∙ yes);
+  still = none.still;
+  knows_count = none.knows_count;
+})

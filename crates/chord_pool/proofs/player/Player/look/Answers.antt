@@ -1,6 +1,6 @@
 use Rattle.std.proofs.Common.{ap, ◌∙◌}
 use Rattle.chord_rule.specs.declared.view.View.{View}
-use Rattle.chord_pool.proofs.Looking.{started_since}
+use Rattle.chord_pool.proofs.Looking.{started_since, plays_since}
 use Rattle.chord_pool.proofs.player.Player.look.Goals as goal
 
 pub returns-clause-started : goal.returns-clause-started
@@ -9,3 +9,7 @@ returns-clause-started g c = λ some.
 
 pub returns-clause-kept : goal.returns-clause-kept
 returns-clause-kept g c = λ none. c.find_work-self.ensures.kept none ∙ ap (λ (v : View). v.kept) c.count-count.ensures.counted.2
+
+pub returns-clause-plays : goal.returns-clause-plays
+returns-clause-plays g c = λ some.
+    plays_since g.G.Gate.knows c.args.self.now.worker c.count-count.new.self c.find_work-self.new.worker c.find_work-self.result c.requires.idle (ap (λ (v : View). v.kept) c.count-count.ensures.counted.2) (c.find_work-self.ensures.plays some)
