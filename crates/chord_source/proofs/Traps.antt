@@ -317,6 +317,7 @@ module _ (p : Program) (hands : HandsTrapsOn p) where
   )
 
   module _ (before after : List Entry) (entry : Entry) (trap : Trap) (is : entry.what ≡ Ended (Traps trap)) (whole : IsPast p (reverse after ++ entry ∷ reverse before)) where
+    -- the entry and those before it are a past
     here : IsPast p (entry ∷ reverse before)
     here = past_before p (reverse after) (entry ∷ reverse before) whole
 
