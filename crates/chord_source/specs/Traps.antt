@@ -1,4 +1,4 @@
--- What a trap does in a run: it ends its own body and, through calls, the bodies that wait for it, and changes no other. A journal has its oldest entry first.
+-- What a trap does in a run: it ends its own body, those that wait for this body ask the same end, and it changes no other. A journal has its oldest entry first.
 use Rattle.std.specs.Prelude.{◌≡◌, ◌⊎◌, ◌↔◌, ℕ, List, [], ◌∷◌, ◌++◌, reverse, Some}
 use Rattle.chord_base.specs.Bodies.{Asks, Over, Ready, WaitsFor, doing, serves}
 use Rattle.chord_base.specs.Machine.{IsRun}
