@@ -1,21 +1,26 @@
 -- What a worker that looks for a firing has seen.
-use Rattle.std.proofs.Common.{◌≡◌, ◌≢◌, ℕ, ◌+◌, true, false, Option, Some, None, is_some, refl, sym, ap, ◌∙◌, subst, inl, inr, arith}
+use Rattle.std.proofs.Common.{◌≡◌, ◌≢◌, ℕ, ◌+◌, ◌-◌, ◌<◌, ◌≤◌, min, max, Bool, true, false, if◌then◌else◌, Option, Some, None, is_some, List, [], ◌∷◌, ◌++◌, length, length-append, append_assoc, refl, sym, ap, ◌∙◌, subst, inl, inr, arith}
 use mathlib.Core.Logic.{dite}
 use native.Mathlib.Decide.{ℕ_discrete}
 use Rattle.chord_base.specs.Story.{IsIn}
+use Rattle.chord_rule.specs.declared.view.Look.{Look}
 use Rattle.chord_rule.specs.declared.view.View.{View}
 use Rattle.chord_rule.specs.Kinds.{saw}
 use Rattle.chord_rule.specs.Tells.{a_word}
 use Rattle.chord_rule.specs.Ways.{LastSeen}
+use Rattle.chord_roll.specs.Cards.{counts}
+use Rattle.chord_space.specs.declared.space.Space.{Space}
 use Rattle.chord_space.specs.Desks.{view}
+use Rattle.chord_task.specs.declared.parcel.Opened.{Opened as Parcel}
 use Rattle.chord_task.specs.declared.task.Task.{Task}
 use Rattle.chord_word.specs.declared.cells.Cell.{Cell}
-use Rattle.chord_word.specs.declared.cells.Cell.TheVariants.{Ready}
+use Rattle.chord_word.specs.declared.cells.Cell.TheVariants.{Empty, Pending, Claimed, Consumed, Woken, Ready, Started}
 use Rattle.chord_word.specs.declared.cells.Word.{Word}
 use Rattle.chord_worker.specs.declared.worker.Worker.{Worker}
 use Rattle.chord_worker.specs.Resting.{IsSeen}
 use Rattle.chord_worker.specs.Stepping.{PlaysFiring}
-use Rattle.chord_pool.specs.Players.{AreUnready, SawUnready, HasStarted}
+use Rattle.chord_pool.specs.declared.player.Player.{Player}
+use Rattle.chord_pool.specs.Players.{is_ready, count_ready, AreAmong, AreUnready, FoundNoneBelow, LookedOnce, LookedThrough, SawUnready, KnowsCount, HasStarted, BeginsLook, HasFoundNone}
 
 -- a look at a cell that is not ready
 pub seen_once : (v w : View) (i : ℕ) (x : Word) → IsSeen v w i x → x.cell ≢ Ready → SawUnready v w i
@@ -50,6 +55,80 @@ seen_twice v u w i x look again = record {
   others = λ k y apart was. again.others k y apart (subst (LastSeen k y) (sym look.seen) (inr (apart, was)));
 }
 
+-- a cell in which no firing is ready
+not_ready : (c : Cell) → c ≢ Ready → is_ready c ≡ false
+not_ready Empty not = refl
+not_ready Pending not = refl
+not_ready Claimed not = refl
+not_ready Consumed not = refl
+not_ready (Woken q) not = refl
+not_ready Ready not = absurd (not refl)
+not_ready Started not = refl
+
+-- a look at a firing that was refused, as its cell told
+pub looked_refused : (v w : View) (i : ℕ) (c : Cell) (next : Option ℕ) → w ≡ saw v i (a_word c next) → c ≢ Ready → LookedOnce i v w
+looked_refused v w i c next told unready = record { word = a_word c next; unready = unready; seen = ap (λ (z : View). z.looked.seen) told }
+
+-- no number was looked at
+pub through_none : (from : ℕ) (v : View) → LookedThrough from from v v
+through_none from v = record { looks = []; seen = refl; among = tt; in_vain = omega arith; ready = omega arith }
+
+-- one look at one number, in which no firing was ready
+pub through_once : (v w : View) (i : ℕ) (x : Word) → x.cell ≢ Ready → w.looked.seen ≡ record { number = i; word = x } ∷ v.looked.seen → LookedThrough i (i + 1) v w
+through_once v w i x unready seen = record {
+  looks = record { number = i; word = x } ∷ [];
+  seen = seen;
+  among = (omega arith, omega arith, tt);
+  in_vain = let none = not_ready x.cell unready in rw none (omega arith);
+  ready = let none = not_ready x.cell unready in rw none (omega arith);
+}
+
+-- one look at a firing that was ready, and one at which it was no longer
+pub through_twice : (v u w : View) (i : ℕ) (x : Word) → x.cell ≡ Ready → u.looked.seen ≡ record { number = i; word = x } ∷ v.looked.seen → LookedOnce i u w → LookedThrough i (i + 1) v w
+through_twice v u w i x ready seen again = record {
+  looks = record { number = i; word = again.word } ∷ record { number = i; word = x } ∷ [];
+  seen = again.seen ∙ ap (λ l. record { number = i; word = again.word } ∷ l) seen;
+  among = (omega arith, omega arith, (omega arith, omega arith, tt));
+  in_vain = rw (not_ready again.word.cell again.unready, ready) (omega arith);
+  ready = rw (not_ready again.word.cell again.unready, ready) (omega arith);
+}
+
+-- how many looks in two lists read that a firing is ready
+count_ready-append : (xs ys : List Look) → count_ready (xs ++ ys) ≡ count_ready xs + count_ready ys
+count_ready-append [] ys = omega arith
+count_ready-append (x ∷ xs) ys = let rest = count_ready-append xs ys in rw rest (omega arith)
+
+-- looks at numbers among some, and then at others, are looks at numbers among all of these
+among_more : (from i : ℕ) (xs ys : List Look) → from ≤ i → AreAmong i (i + 1) xs → AreAmong from i ys → AreAmong from (i + 1) (xs ++ ys)
+among_more from i [] [] low one was = tt
+among_more from i [] (y ∷ ys) low one was = (was.0, (let below = was.1 in omega (arith, below)), among_more from i [] ys low one was.2)
+among_more from i (x ∷ xs) ys low one was = ((let above = one.0 in omega (arith, low, above)), one.1, among_more from i xs ys low one.2 was)
+
+-- looks at numbers in a row, of which there may be none
+among_all : (from i below : ℕ) (looks : List Look) → i ≤ max from below → AreAmong from i looks → AreAmong from below looks
+among_all from i below [] within was = tt
+among_all from i below (l ∷ ls) within was = (was.0, (let above = was.0 in let under = was.1 in omega (arith, within, above, under)), among_all from i below ls within was.2)
+
+-- numbers in a row were looked at, and then one more
+pub through_more : (u v w : View) (from i : ℕ) → from ≤ i → LookedThrough from i u v → LookedThrough i (i + 1) v w → LookedThrough from (i + 1) u w
+through_more u v w from i low was one = record {
+  looks = one.looks ++ was.looks;
+  seen = one.seen ∙ ap (λ l. one.looks ++ l) was.seen ∙ sym (append_assoc one.looks was.looks u.looked.seen);
+  among = among_more from i one.looks was.looks low one.among was.among;
+  in_vain = let long = length-append one.looks was.looks in let ready = count_ready-append one.looks was.looks in let a = one.in_vain in let b = was.in_vain in omega (arith, low, long, ready, a, b);
+  ready = let ready = count_ready-append one.looks was.looks in let a = one.ready in let b = was.ready in omega (arith, low, ready, a, b);
+}
+
+-- where numbers in a row came to their end, or there are none, all were looked at
+pub through_all : (v w : View) (from i below : ℕ) → below ≤ i → i ≤ max from below → LookedThrough from i v w → LookedThrough from below v w
+through_all v w from i below end within was = record {
+  looks = was.looks;
+  seen = was.seen;
+  among = among_all from i below was.looks within was.among;
+  in_vain = let long = was.in_vain in omega (arith, long, end, within);
+  ready = let few = was.ready in omega (arith, few, end, within);
+}
+
 -- one more cell that was not ready
 pub unready_more : (from i : ℕ) (v w : View) → AreUnready from i v.looked.seen → SawUnready v w i → AreUnready from (i + 1) w.looked.seen
 unready_more from i v w was saw_it k above low = dite (ℕ_discrete k i)
@@ -80,3 +159,23 @@ plays_since knows u v w i none same plays = record {
 -- whichever it is
 pub started_since : (knows : ℕ → Type 0) (u v w : Worker) → u.task ≡ None → (view v.desk).kept ≡ (view u.desk).kept → HasStarted knows v w → HasStarted knows u w
 started_since knows u v w none same started = (started.0, plays_since knows u v w started.0 none same started.1)
+
+-- a player that looked and found none, where b is the player as it began to look, and l as it was after it
+pub found_none : (s : Space Parcel) (x b l y : Player) (all : Bool) → b.worker ≡ x.worker → b.known ≡ x.known → BeginsLook x b.place b.misses → all ≡ counts x.card
+    → l.worker.task ≡ None → (view l.worker.desk).kept ≡ (view b.worker.desk).kept → LookedThrough b.place (if all then l.known else min b.known l.known) (view b.worker.desk) (view l.worker.desk)
+    → l.place ≡ (if all then l.known else min b.known l.known) - 256 → FoundNoneBelow s b.place b.known (view l.worker.desk) → KnowsCount s l → x.worker.task ≡ None
+    → y.worker ≡ l.worker → y.place ≡ l.place → y.known ≡ l.known → (counts x.card ≡ false → b.misses < 32 → y.misses ≡ b.misses + 1) → (counts x.card ≡ true → y.misses ≡ b.misses) → HasFoundNone s x y
+found_none s x b l y all worker known begins as_counted none kept through next unready count idle same_worker same_place same_known missed uncounted = record {
+  from = b.place;
+  misses = b.misses;
+  below = if all then l.known else min b.known l.known;
+  begins = begins;
+  below_is = rw (as_counted, known, same_known) refl;
+  through = rw (same_worker, sym worker) through;
+  none = rw (same_worker, sym known) unready;
+  place = same_place ∙ next;
+  missed = missed;
+  uncounted = uncounted;
+  still = rw same_worker (none ∙ sym idle, kept ∙ ap (λ (w : Worker). (view w.desk).kept) worker);
+  knows_count = (count.0, rw same_worker count.1, same_known ∙ count.2);
+}

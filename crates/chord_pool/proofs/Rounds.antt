@@ -6,12 +6,20 @@ use Rattle.chord_task.specs.declared.parcel.Opened.{Opened as Parcel}
 use Rattle.chord_worker.specs.declared.worker.Worker.{Worker}
 use Rattle.chord_worker.specs.Stepping.{StillPlays}
 use Rattle.chord_pool.specs.declared.player.Player.{Player}
-use Rattle.chord_pool.specs.Players.{HadARound, IsBetweenRounds, AreRounds, HadRounds, HasLeftOff, HaveAllLeftOff}
+use Rattle.chord_pool.specs.Players.{HadARound, StandsStill, IsBetweenRounds, AreRounds, HadRounds, HasLeftOff, HaveAllLeftOff}
 use Rattle.chord_pool.specs.Ending.{HadATurn, HadTurns}
+
+-- a player stands where it stood, twice
+stands_on : (x y z : Player) → StandsStill x y → StandsStill y z → StandsStill x z
+stands_on x y z a b = record { place = b.place ∙ a.place; known = b.known ∙ a.known; misses = b.misses ∙ a.misses }
 
 -- nothing happens between two rounds, twice
 between_on : (x y z : Player) → IsBetweenRounds x y → IsBetweenRounds y z → IsBetweenRounds x z
-between_on x y z a b = record { worker = b.worker ∙ a.worker; place = b.place ∙ a.place; known = b.known ∙ a.known }
+between_on x y z a b = record { worker = b.worker ∙ a.worker; stands = stands_on x y z a.stands b.stands }
+
+-- nothing happens to a player that stays as it is
+pub between_none : (x : Player) → IsBetweenRounds x x
+between_none x = record { worker = refl; stands = record { place = refl; known = refl; misses = refl } }
 
 -- nor does it behind rounds
 rounds_stay : (knows : ℕ → Type 0) (s : Space Parcel) (x y z : Player) (ys : List Player) → AreRounds knows s x ys y → IsBetweenRounds y z → AreRounds knows s x ys z
@@ -29,7 +37,7 @@ no_rounds knows s x y same = record { after_each = []; rounds = same }
 
 -- and one that has had one more
 pub one_round_more : (knows : ℕ → Type 0) (s : Space Parcel) (x y z : Player) → HadRounds knows s x y → HadARound knows s y z → HadRounds knows s x z
-one_round_more knows s x y z had one = record { after_each = z ∷ had.after_each; rounds = (y, had.rounds, one, record { worker = refl; place = refl; known = refl }) }
+one_round_more knows s x y z had one = record { after_each = z ∷ had.after_each; rounds = (y, had.rounds, one, between_none z) }
 
 -- and one that has had several more
 pub more_rounds : (knows : ℕ → Type 0) (s : Space Parcel) (x y z : Player) → HadRounds knows s x y → HadRounds knows s y z → HadRounds knows s x z

@@ -1,5 +1,5 @@
 -- Workers of one run: which of them may draw, which have nothing to play, and how they are handed to threads and come back.
-use Rattle.std.specs.Prelude.{◌≡◌, ◌≢◌, ◌⊎◌, ◌<◌, ◌≤◌, ℕ, false, true, List, [], ◌∷◌, length, min, Some, None, All}
+use Rattle.std.specs.Prelude.{◌≡◌, ◌≢◌, ◌⊎◌, ◌<◌, ◌≤◌, ◌+◌, ◌-◌, ℕ, Bool, false, true, if◌then◌else◌, List, [], ◌∷◌, ◌++◌, length, min, Some, None, All}
 use Rattle.atomic_table.specs.Seated.{TableId}
 use Rattle.chord_base.specs.declared.event.Limits.{Limits}
 use Rattle.chord_base.specs.Story.{IsSound}
@@ -13,6 +13,7 @@ use Rattle.chord_space.specs.declared.space.Space.{Space}
 use Rattle.chord_space.specs.Desks.{view, space_code, space_limits, program_of}
 use Rattle.chord_task.specs.declared.parcel.Opened.{Opened as Parcel}
 use Rattle.chord_task.specs.declared.task.Task.{Task}
+use Rattle.chord_word.specs.declared.cells.Cell.{Cell}
 use Rattle.chord_word.specs.declared.cells.Cell.TheVariants.{Ready}
 use Rattle.chord_word.specs.declared.cells.Word.{Word}
 use Rattle.chord_worker.specs.declared.worker.Worker.{Worker}
@@ -57,6 +58,35 @@ IsUnready i looks = (x : Word) × LastSeen i x looks × (x.cell ≢ Ready)
 abbrev pub AreUnready : ℕ → ℕ → List Look → Type 0
 AreUnready from to looks = (i : ℕ) → from ≤ i → i < to → IsUnready i looks
 
+-- whether this is the cell of a firing that is ready
+abbrev pub is_ready : Cell → Bool
+is_ready Ready = true
+is_ready _ = false
+
+-- how many of these looks read that a firing is ready
+abbrev pub count_ready : List Look → ℕ
+count_ready [] = 0
+count_ready (l ∷ ls) = (if is_ready l.word.cell then 1 else 0) + count_ready ls
+
+-- these looks were at numbers from `from` up to below `below`
+abbrev pub AreAmong : ℕ → ℕ → List Look → Type 0
+AreAmong from below [] = Unit {0}
+AreAmong from below (l ∷ ls) = (from ≤ l.number) × (l.number < below) × AreAmong from below ls
+
+-- between these views the desk looked once, at the cell i, in which no firing was ready
+pub record LookedOnce (i : ℕ) (v w : View) : Type 0 where
+  pub word : Word
+  pub unready : word.cell ≢ Ready
+  pub seen : w.looked.seen ≡ record { number = i; word = word } ∷ v.looked.seen
+
+-- between these views the desk looked at cells from `from` up to below `below` and at no other ones: each cost one look that found no firing ready, and at most one more that did, before another worker started it
+pub record LookedThrough (from below : ℕ) (v w : View) : Type 0 where
+  pub looks : List Look
+  pub seen : w.looked.seen ≡ looks ++ v.looked.seen
+  pub among : AreAmong from below looks
+  pub in_vain : length looks ≡ (below - from) + count_ready looks
+  pub ready : count_ready looks ≤ below - from
+
 -- the desk looked at the counter, and last saw no firing ready among the numbers that are given, from `from` up to below `below`
 pub record FoundNoneBelow (s : Space Parcel) (from below : ℕ) (v : View) : Type 0 where
   pub count : ℕ
@@ -96,15 +126,47 @@ KnowsCount s x = (count : ℕ) × ((view x.worker.desk).looked.count ≡ Some co
 abbrev pub HasStarted : (ℕ → Type 0) → Worker → Worker → Type 0
 HasStarted knows v w = (f : ℕ) × PlaysFiring knows (view v.desk).kept v.task w f
 
--- a player that had no task has started a firing, or has none and keeps what it kept, found no firing to start among the numbers that it knew of, from its place or a lower one on, and knows how many are given now
-abbrev pub HasLooked : (ℕ → Type 0) → Space Parcel → Player → Player → Type 0
-HasLooked knows s x y = HasStarted knows x.worker y.worker
-    ⊎ ((from : ℕ) × (from ≤ x.place) × FoundNoneBelow s from x.known (view y.worker.desk) × StillPlays (view x.worker.desk).kept x.worker.task y.worker × KnowsCount s y)
+-- a player stands where it stood: it has the same place, knows of as many numbers, and as many of its last looks found none
+pub record StandsStill (x y : Player) : Type 0 where
+  pub place : y.place ≡ x.place
+  pub known : y.known ≡ x.known
+  pub misses : y.misses ≡ x.misses
 
--- a player went on with its task, and plays no other one but a body of which the gate knows, or it looked for a firing
+-- where a look begins, and how many before it found none: at the place of the player, but at the first number, and none, where 32 of them did
+pub record BeginsLook (x : Player) (from misses : ℕ) : Type 0 where
+  pub near : x.misses ≢ 32 → (from ≡ x.place) × (misses ≡ x.misses)
+  pub far : x.misses ≡ 32 → (from ≡ 0) × (misses ≡ 0)
+
+-- a player that had no task plays the firing at its place now, of which the gate knows, and whose entry its desk keeps beside all that it kept: it went on from its place, unless 32 looks had found none, or it read that nobody is at work
+pub record HasFound (knows : ℕ → Type 0) (x y : Player) : Type 0 where
+  pub plays : PlaysFiring knows (view x.worker.desk).kept x.worker.task y.worker y.place
+  pub onward : x.misses ≢ 32 → last_read y.card ≢ Some 0 → x.place ≤ y.place
+  pub misses : y.misses ≡ 0
+
+-- a player that had no task has none and keeps what it kept: it looked at the numbers from where its look begins up to those that it knew of, or all that are given if it counts, found no firing to start there, goes on at most 256 below their end, and knows how many are given now
+pub record HasFoundNone (s : Space Parcel) (x y : Player) : Type 0 where
+  pub from : ℕ
+  pub misses : ℕ
+  pub below : ℕ
+  pub begins : BeginsLook x from misses
+  pub below_is : below ≡ (if counts x.card then y.known else min x.known y.known)
+  pub through : LookedThrough from below (view x.worker.desk) (view y.worker.desk)
+  pub none : FoundNoneBelow s from x.known (view y.worker.desk)
+  pub place : y.place ≡ below - 256
+  pub missed : counts x.card ≡ false → misses < 32 → y.misses ≡ misses + 1
+  pub uncounted : counts x.card ≡ true → y.misses ≡ misses
+  pub still : StillPlays (view x.worker.desk).kept x.worker.task y.worker
+  pub knows_count : KnowsCount s y
+
+-- a player that had no task has found a firing to play, or looked from its place on and found none
+abbrev pub HasLooked : (ℕ → Type 0) → Space Parcel → Player → Player → Type 0
+HasLooked knows s x y = HasFound knows x y ⊎ HasFoundNone s x y
+
+-- a player went on with its task, plays no other one but a body of which the gate knows, and stands where it stood, or it looked for a firing
 pub record HadARound (knows : ℕ → Type 0) (s : Space Parcel) (x y : Player) : Type 0 where
   pub went : (t : Task) → x.worker.task ≡ Some t → HasGoneOn (view x.worker.desk).kept t y.worker
   pub plays : (t : Task) → x.worker.task ≡ Some t → PlaysNext knows (view x.worker.desk).kept t y.worker
+  pub stands : (t : Task) → x.worker.task ≡ Some t → StandsStill x y
   pub looked : x.worker.task ≡ None → HasLooked knows s x y
 
 -- it has the same card, and plays at the same desk unless it fails
@@ -119,11 +181,10 @@ pub record IsOnTheWay (s : Space Parcel) (x y : Player) : Type 0 where
   pub counts_so : CountsIfItPlays y
   pub told_nothing : stops y.card ≡ false
 
--- between two rounds a player has the same worker, the same place, and knows of as many numbers
+-- between two rounds a player has the same worker, and stands where it stood
 pub record IsBetweenRounds (x y : Player) : Type 0 where
   pub worker : y.worker ≡ x.worker
-  pub place : y.place ≡ x.place
-  pub known : y.known ≡ x.known
+  pub stands : StandsStill x y
 
 -- rounds lead from x to y, and these are the players after each of them, the newest first
 abbrev pub AreRounds : (ℕ → Type 0) → Space Parcel → Player → List Player → Player → Type 0

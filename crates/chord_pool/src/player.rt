@@ -1,12 +1,12 @@
 //! A worker at its thread: it plays what it has, and looks for more.
-ghost use Rattle.std.specs.Prelude.{◌≡◌, ◌≢◌, ◌<◌, ◌≤◌, true, false, None, Some, is_some, IfNone};
+ghost use Rattle.std.specs.Prelude.{◌≡◌, ◌≢◌, ◌<◌, ◌≤◌, ◌+◌, ◌-◌, true, false, if◌then◌else◌, min, None, Some, is_some, IfNone, IfSome};
 ghost use Rattle.chord_roll.specs.Cards.{counts, last_read, stops, HasReadNothing, IsSameCard};
 ghost use Rattle.chord_pool.specs.declared.player.Player.{Player as ThePlayer};
 ghost use Rattle.chord_space.specs.Desks.{view};
 ghost use Rattle.chord_task.specs.declared.task.Task.{Task as TheTask};
 ghost use Rattle.chord_worker.specs.Resting.{IsSameRole};
 ghost use Rattle.chord_worker.specs.Stepping.{HasGoneOn, PlaysNext, PlaysFiring, StillPlays};
-ghost use Rattle.chord_pool.specs.Players.{IsOneRun, IsFit, AreUnready, FoundNoneBelow, FoundNone, SawUnready, KnowsCount, HasStarted, HasLooked, HadARound, HadRounds, HasLeftOff, MayPlay, HasPlayed, PlaysOn, IsOnTheWay, CountsIfItPlays, TellsIfItFails};
+ghost use Rattle.chord_pool.specs.Players.{IsOneRun, IsFit, AreUnready, FoundNoneBelow, FoundNone, SawUnready, LookedOnce, LookedThrough, KnowsCount, HasStarted, StandsStill, BeginsLook, HasLooked, HadARound, HadRounds, HasLeftOff, MayPlay, HasPlayed, PlaysOn, IsOnTheWay, CountsIfItPlays, TellsIfItFails};
 
 use crate::pause::Pause;
 use crate::run::Run;
@@ -58,6 +58,7 @@ fn start_at_work<'a, G: Gate>(
     ensures task { result ≡ is_some worker.new.task }
     ensures plays { result ≡ true → PlaysFiring G.knows (view worker.old.desk).kept worker.old.task worker.new i }
     ensures refused { result ≡ false → SawUnready (view worker.old.desk) (view worker.new.desk) i }
+    ensures once { result ≡ false → LookedOnce i (view worker.old.desk) (view worker.new.desk) }
 {
     // the card is here so that a condition can speak of it
     let _ = card.is_at_work();
@@ -85,6 +86,7 @@ fn try_start<'a, G: Gate>(
     ensures as_before { result ≡ false → counts card.new ≡ counts card.old }
     ensures plays { result ≡ true → PlaysFiring G.knows (view worker.old.desk).kept worker.old.task worker.new i }
     ensures seen { result ≡ false → SawUnready (view worker.old.desk) (view worker.new.desk) i }
+    ensures through { result ≡ false → LookedThrough i (i + 1) (view worker.old.desk) (view worker.new.desk) }
 {
     match worker.look(run.space, i) {
         Cell::Ready => {
@@ -100,7 +102,7 @@ fn try_start<'a, G: Gate>(
     }
 }
 
-/// Looks through the cells of these numbers for a firing that is ready, and starts the first. Its number.
+/// Looks through the cells of these numbers, and of no other ones, for a firing that is ready, and starts the first. Its number.
 fn sweep<'a, G: Gate>(
     run: &Run<'a>,
     worker: &mut Worker,
@@ -124,6 +126,9 @@ fn sweep<'a, G: Gate>(
     ensures kept { IfNone result ((view worker.new.desk).kept ≡ (view worker.old.desk).kept) }
     ensures count { IfNone result ((view worker.new.desk).looked.count ≡ (view worker.old.desk).looked.count) }
     ensures seen { IfNone result (AreUnready from below (view worker.new.desk).looked.seen) }
+    ensures through { IfNone result (LookedThrough from below (view worker.old.desk) (view worker.new.desk)) }
+    ensures plays { IfSome result (λ i. PlaysFiring G.knows (view worker.old.desk).kept worker.old.task worker.new i) }
+    ensures among { IfSome result (λ i. (from ≤ i) × (i < below)) }
 {
     for i in from..below {
         if try_start(run, worker, i, gate, card) {
@@ -133,7 +138,8 @@ fn sweep<'a, G: Gate>(
     None
 }
 
-/// Looks for a firing from this place on, below that number. Where the next look begins; whether it plays one now, the worker says.
+/// Looks for a firing from this place on, below that number. Where the next look begins: at the firing that it plays now, if the worker
+/// has one, and else a little below the end.
 fn find_work<'a, G: Gate>(
     run: &Run<'a>,
     worker: &mut Worker,
@@ -156,6 +162,10 @@ fn find_work<'a, G: Gate>(
     ensures kept { worker.new.task ≡ None → (view worker.new.desk).kept ≡ (view worker.old.desk).kept }
     ensures count { worker.new.task ≡ None → (view worker.new.desk).looked.count ≡ (view worker.old.desk).looked.count }
     ensures seen { worker.new.task ≡ None → AreUnready place below (view worker.new.desk).looked.seen }
+    ensures through { worker.new.task ≡ None → LookedThrough place below (view worker.old.desk) (view worker.new.desk) }
+    ensures next { worker.new.task ≡ None → result ≡ below - 256 }
+    ensures plays { worker.new.task ≢ None → PlaysFiring G.knows (view worker.old.desk).kept worker.old.task worker.new result }
+    ensures onward { worker.new.task ≢ None → place ≤ result }
 {
     match sweep(run, worker, place, below, gate, card) {
         Some(i) => i,
@@ -166,7 +176,7 @@ fn find_work<'a, G: Gate>(
 impl Player {
     /// One that has not played yet.
     pub(crate) fn new(worker: Worker, card: Card) -> Player
-        ensures { (result.worker ≡ worker) × (result.card ≡ card) × (result.failed ≡ false) }
+        ensures { (result.worker ≡ worker) × (result.card ≡ card) × (result.failed ≡ false) × (result.place ≡ 0) × (result.known ≡ 0) × (result.misses ≡ 0) }
     {
         Player {
             worker,
@@ -199,6 +209,7 @@ impl Player {
         ensures told { TellsIfItFails self.new }
         ensures went { result ≡ true → (t : TheTask) → self.old.worker.task ≡ Some t → HasGoneOn (view self.old.worker.desk).kept t self.new.worker }
         ensures plays { result ≡ true → (t : TheTask) → self.old.worker.task ≡ Some t → PlaysNext G.knows (view self.old.worker.desk).kept t self.new.worker }
+        ensures stands { result ≡ true → StandsStill self.old self.new }
     {
         match self
             .worker
@@ -224,7 +235,8 @@ impl Player {
         true
     }
 
-    /// Looks for a firing from its place on: among all numbers, or else among those that it knew of before. One that does not count
+    /// Looks for a firing from its place on: among all numbers, or else among those that it knew of before. The next look goes on at the
+    /// firing that it found, or a little below the end of these. One that does not count
     /// looks among all of them where it has read that nobody is at work, and only then: so none was at work before the look began.
     /// What one that counts finds among all of them says nothing of when it may go: it may count for the look's sake.
     fn look<'a, G: Gate>(&mut self, run: &Run<'a>, gate: &G, among_all: bool)
@@ -244,6 +256,10 @@ impl Player {
         ensures all { among_all ≡ true → last_read self.old.card ≡ Some 0 → self.new.worker.task ≡ None → FoundNone run.now.space.now self.old.place (view self.new.worker.desk) }
         ensures knew { self.new.worker.task ≡ None → FoundNoneBelow run.now.space.now self.old.place self.old.known (view self.new.worker.desk) }
         ensures knows { self.new.worker.task ≡ None → KnowsCount run.now.space.now self.new }
+        ensures through { self.new.worker.task ≡ None → LookedThrough self.old.place (if among_all then self.new.known else min self.old.known self.new.known) (view self.old.worker.desk) (view self.new.worker.desk) }
+        ensures next { self.new.worker.task ≡ None → self.new.place ≡ (if among_all then self.new.known else min self.old.known self.new.known) - 256 }
+        ensures plays { self.new.worker.task ≢ None → PlaysFiring G.knows (view self.old.worker.desk).kept self.old.worker.task self.new.worker self.new.place }
+        ensures onward { self.new.worker.task ≢ None → self.old.place ≤ self.new.place }
     {
         let count = self.worker.count(run.space);
         let below = if among_all {
@@ -278,10 +294,23 @@ impl Player {
         ensures started { self.new.worker.task ≢ None → HasStarted G.knows self.old.worker self.new.worker }
         ensures kept { self.new.worker.task ≡ None → (view self.new.worker.desk).kept ≡ (view self.old.worker.desk).kept }
         ensures none { self.new.worker.task ≡ None → FoundNone run.now.space.now 0 (view self.new.worker.desk) }
+        ensures plays { self.new.worker.task ≢ None → PlaysFiring G.knows (view self.old.worker.desk).kept self.old.worker.task self.new.worker self.new.place }
     {
         if from > 0 {
             self.place = 0;
             self.look(run, gate, true);
+        }
+    }
+
+    /// One of so many looks that found nothing is followed by one that begins at the first number.
+    fn begin_look(&mut self)
+        ensures same { (self.new.worker ≡ self.old.worker) × (self.new.card ≡ self.old.card) × (self.new.failed ≡ self.old.failed) × (self.new.known ≡ self.old.known) }
+        ensures begins { BeginsLook self.old self.new.place self.new.misses }
+        ensures back { self.new.place ≤ self.old.place }
+    {
+        if self.misses == FAR_LOOK {
+            self.place = 0;
+            self.misses = 0;
         }
     }
 
@@ -307,10 +336,7 @@ impl Player {
         // Read before the look: what is posted later is posted by a worker that is at work now, or by one of those whose work
         // this look finds.
         let working = self.card.read();
-        if self.misses == FAR_LOOK {
-            self.place = 0;
-            self.misses = 0;
-        }
+        self.begin_look();
         let from = self.place;
         let counted = self.card.is_at_work();
         self.look(run, gate, counted || working == 0);

@@ -1,7 +1,7 @@
-use Rattle.std.proofs.Common.{◌∙◌, refl, sym}
+use Rattle.std.proofs.Common.{◌∙◌, refl, sym, arith}
 use Rattle.chord_space.specs.Desks.{view}
 use Rattle.chord_pool.proofs.Endings.{role_stays}
-use Rattle.chord_pool.proofs.Looking.{none_there, unready_more, plays_since}
+use Rattle.chord_pool.proofs.Looking.{none_there, unready_more, through_more, through_all, plays_since}
 use Rattle.chord_pool.proofs.player.sweep.Goals as goal
 
 pub loop-i-preserved : goal.loop-i-preserved
@@ -16,8 +16,17 @@ loop-i-preserved g c =
       ((now.card.0.0 ∙ was.6.0.0, now.card.0.1 ∙ was.6.0.1), now.card.1 ∙ was.6.1),
       now.stops ∙ was.7,
       saw_it.kept ∙ was.8,
+      (let within = c.loop-i-test.true in omega (arith, within)),
+      through_more (view c.args.worker.now.desk) (view c.loop-i.worker.desk) (view c.try_start.new.worker.desk) c.args.from c.loop-i.i c.loop-i.auto.i was.10 (now.through refl),
     )
 
 pub returns-then-try_start-clause-started : goal.returns-then-try_start-clause-started
 returns-then-try_start-clause-started g c = λ _.
     (c.loop-i.i, plays_since g.G.Gate.knows c.args.worker.now c.loop-i.worker c.try_start.new.worker c.loop-i.i c.requires.idle c.loop-i.invariant.8 (c.if-try_start.ensures.plays refl))
+
+pub returns-then-try_start-clause-plays : goal.returns-then-try_start-clause-plays
+returns-then-try_start-clause-plays g c =
+    plays_since g.G.Gate.knows c.args.worker.now c.loop-i.worker c.try_start.new.worker c.loop-i.i c.requires.idle c.loop-i.invariant.8 (c.if-try_start.ensures.plays refl)
+
+pub returns-clause-through : goal.returns-clause-through
+returns-clause-through g c = through_all (view c.args.worker.now.desk) (view c.loop-i.worker.desk) c.args.from c.loop-i.i c.args.below c.loop-i-test.false c.loop-i.invariant.9 c.loop-i.invariant.10

@@ -1,9 +1,9 @@
--- The worker has found nothing so far: each cell up to here was not ready, and it counts among those at work if it did, on the card that it had, and knows of being told to stop what it did; its desk keeps what it kept.
-use Rattle.std.proofs.Common.{◌≡◌, None}
+-- The worker has found nothing so far: each cell up to here was not ready, and it looked at these alone; it counts among those at work if it did, on the card that it had, and knows of being told to stop what it did; its desk keeps what it kept.
+use Rattle.std.proofs.Common.{◌≡◌, ◌≤◌, max, None}
 use Rattle.chord_roll.specs.Cards.{counts, stops, HasReadNothing}
 use Rattle.chord_space.specs.Desks.{view}
 use Rattle.chord_worker.specs.Resting.{IsSameRole}
-use Rattle.chord_pool.specs.Players.{IsFit, AreUnready}
+use Rattle.chord_pool.specs.Players.{IsFit, AreUnready, LookedThrough}
 use Rattle.chord_pool.proofs.player.sweep.Given as goal
 
 abbrev pub invariant-loop-i : goal.invariant-loop-i
@@ -11,4 +11,4 @@ invariant-loop-i g l =
     IsFit l.run.space.now l.worker × (l.worker.task ≡ None) × IsSameRole (view l.fn.worker.desk) (view l.worker.desk)
     × ((view l.worker.desk).looked.count ≡ (view l.fn.worker.desk).looked.count) × AreUnready l.from l.i (view l.worker.desk).looked.seen
     × (counts l.card ≡ counts l.fn.card) × HasReadNothing l.fn.card l.card × (stops l.card ≡ stops l.fn.card)
-    × ((view l.worker.desk).kept ≡ (view l.fn.worker.desk).kept)
+    × ((view l.worker.desk).kept ≡ (view l.fn.worker.desk).kept) × (l.i ≤ max l.from l.below) × LookedThrough l.from l.i (view l.fn.worker.desk) (view l.worker.desk)

@@ -1,5 +1,6 @@
+use Rattle.std.proofs.Common.{◌∙◌, sym}
 use Rattle.chord_space.specs.Desks.{view}
-use Rattle.chord_pool.proofs.Looking.{seen_twice, plays_since}
+use Rattle.chord_pool.proofs.Looking.{seen_twice, through_once, through_twice, plays_since}
 use Rattle.chord_pool.proofs.player.try_start.Goals as goal
 
 pub returns-else-not-started-clause-seen : goal.returns-else-not-started-clause-seen
@@ -15,3 +16,18 @@ pub returns-then-not-was_at_work-clause-seen : goal.returns-then-not-was_at_work
 returns-then-not-was_at_work-clause-seen g c = λ e.
     let look = c.look.ensures.seen in
     seen_twice (view c.args.worker.now.desk) (view c.look.new.self.desk) (view c.start_at_work-started.new.worker.desk) c.args.i look.0 look.2 (c.start_at_work-started.ensures.refused e)
+
+pub returns-else-not-started-clause-through : goal.returns-else-not-started-clause-through
+returns-else-not-started-clause-through g c = λ e.
+    let look = c.look.ensures.seen in
+    through_twice (view c.args.worker.now.desk) (view c.look.new.self.desk) (view c.start_at_work-started.new.worker.desk) c.args.i look.0 (sym look.1 ∙ c.in-Ready.is) look.2.seen (c.start_at_work-started.ensures.once e)
+
+pub returns-then-not-was_at_work-clause-through : goal.returns-then-not-was_at_work-clause-through
+returns-then-not-was_at_work-clause-through g c = λ e.
+    let look = c.look.ensures.seen in
+    through_twice (view c.args.worker.now.desk) (view c.look.new.self.desk) (view c.start_at_work-started.new.worker.desk) c.args.i look.0 (sym look.1 ∙ c.in-Ready.is) look.2.seen (c.start_at_work-started.ensures.once e)
+
+pub returns-in_default-clause-through : goal.returns-in_default-clause-through
+returns-in_default-clause-through g c = λ e.
+    let look = c.look.ensures.seen in
+    through_once (view c.args.worker.now.desk) (view c.look.new.self.desk) c.args.i look.0 (λ ready. c.in_default.not-Ready (look.1 ∙ ready)) look.2.seen
