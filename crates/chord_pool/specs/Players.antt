@@ -79,7 +79,7 @@ pub record LookedOnce (i : ℕ) (v w : View) : Type 0 where
   pub unready : word.cell ≢ Ready
   pub seen : w.looked.seen ≡ record { number = i; word = word } ∷ v.looked.seen
 
--- between these views the desk looked at cells from `from` up to below `below` and at no other ones: each cost one look that found no firing ready, and at most one more that did, before another worker started it
+-- between these views the desk looked at cells from `from` up to below `below` and at no other ones: as many looks as these are read no firing ready, and at most as many more read one that was, before another worker started it
 pub record LookedThrough (from below : ℕ) (v w : View) : Type 0 where
   pub looks : List Look
   pub seen : w.looked.seen ≡ looks ++ v.looked.seen
