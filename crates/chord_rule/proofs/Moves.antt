@@ -1,5 +1,5 @@
 -- What each step asks of the table.
-use Rattle.std.proofs.Common.{◌≡◌, ◌⊎◌, ⊎_elim, ℕ, ◌+◌, ◌*◌, ◌/◌, ◌%◌, ◌^◌, ◌<◌, ◌≤◌, List, [], ◌∷◌, set, replicate, false, refl, sym, ap, ◌∙◌, subst, arith, get_or, zero, suc, map, Option, None, eqb, Bool, true, if◌then◌else◌}
+use Rattle.std.proofs.Common.{◌≡◌, ◌⊎◌, ⊎_elim, ℕ, ◌+◌, ◌/◌, ◌%◌, ◌^◌, ◌<◌, ◌≤◌, List, [], ◌∷◌, set, replicate, false, refl, sym, ap, ◌∙◌, subst, arith, get_or, zero, suc, map, Option, None, eqb, Bool, true, if◌then◌else◌}
 use mathlib.Core.Option.{none, some, some-injective, some-ne-none}
 use native.Mathlib.Decide.{dec_le}
 use lib.ListN.{get_elem?, length-map, length-replicate}

@@ -1,13 +1,13 @@
 -- Where the words of a table lie: the counter, then the cells, the place words and the heads.
-use Rattle.std.specs.Prelude.{ℕ, ◌+◌, ◌*◌, ◌/◌, ◌%◌}
+use Rattle.std.specs.Prelude.{ℕ, ◌+◌, ◌*◌, ◌%◌}
 
--- where the word of a number lies among those of all numbers. Eight numbers that follow each other lie eight words apart, so that desks which draw them in turn write to cache lines of their own
+-- where the word of a number lies among those of all numbers. Eight numbers that follow each other lie at least eight words apart, so that desks which draw them in turn write to cache lines of their own
 unfoldable pub spread : ℕ → ℕ
-spread i = i / 64 * 64 + i % 8 * 8 + i / 8 % 8
+spread i = i + 8 * (i % 8)
 
--- how many words there are of which each number of a table for n events has one
+-- how many words there are of which each number of a table for n events has one: some of the first and of the last are no number's
 unfoldable pub breadth_for : ℕ → ℕ
-breadth_for n = (n + 63) / 64 * 64
+breadth_for n = n + 56
 
 -- the word of the cell of the number i
 abbrev pub cell_at : ℕ → ℕ

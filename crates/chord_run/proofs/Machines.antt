@@ -1,4 +1,4 @@
--- The join machine of a source is sound, and its runs, with the journals of reports, serve their callers.
+-- The join machine of a source is sound, and its runs, with the journals of reports, serve their callers and keep traps to them.
 use Rattle.std.proofs.Common.{◌≡◌, ℕ, Bool, List, Option, Some, None, refl, subst, sym, inl, inr}
 use Rattle.chord_base.specs.Machine.{IsRun}
 use Rattle.chord_base.specs.Meaning.{Program}
@@ -8,12 +8,13 @@ use Rattle.chord_classes.specs.Breaks.{KeepsEveryRule}
 use Rattle.chord_classes.specs.Rules.{IsFree, is_plan_rule, is_type_rule}
 use Rattle.chord_gen.specs.TypedSource.{AcceptedIsTyped, IsTypedSource}
 use Rattle.chord_run.specs.Due.{HasStatus, IsDue, IsRunDue}
-use Rattle.chord_run.specs.Laws.{MachineIsSound, MachineServesCallers, ReportServesCallers}
+use Rattle.chord_run.specs.Laws.{MachineIsSound, MachineKeepsTraps, MachineServesCallers, ReportIsRun}
 use Rattle.chord_run.specs.Written.{Due}
 use Rattle.chord_run.specs.declared.command.Request.{Request}
 use Rattle.chord_run.specs.declared.refusal.Refusal.{Refusal}
 use Rattle.chord_source.specs.Callers.{RunsServeCallers}
 use Rattle.chord_source.specs.Laws.{IsSoundMachine, MachinesAreSound}
+use Rattle.chord_source.specs.Traps.{HandsTrapsOn, RunsKeepTraps, SourcesHandTrapsOn}
 use Rattle.chord_tree.specs.Tree.{ProgramTree}
 
 -- a program that breaks no rule breaks none of these
@@ -30,6 +31,10 @@ machine_is_sound accepted sound source limits program m =
 pub run_serves : AcceptedIsTyped → MachinesAreSound → RunsServeCallers → MachineServesCallers
 run_serves accepted sound serve source limits program journal m run = serve program journal (machine_is_sound accepted sound source limits program m) run
 
+-- in each run of it each trap stays with its body and that body's callers
+pub run_keeps_traps : SourcesHandTrapsOn → RunsKeepTraps → MachineKeepsTraps
+run_keeps_traps hand keep source limits program journal m run = keep program journal (subst HandsTrapsOn (sym m.2) (hand (resolved_program m.0) limits)) run
+
 -- a journal that has a status is a run
 is_run : (program : Program) (events : ℕ) (journal : List Entry) (status : ℕ) → HasStatus program events journal status → IsRun program journal
 is_run program events journal status (inl c) = c.complete.past
@@ -44,10 +49,10 @@ run_due request source (Some found) (Some refusal) due journal e d = absurd d
 run_due request source None (Some refusal) due journal e d = absurd (cc)
 run_due request source None None due journal e d = absurd (cc)
 
--- the journal of a report is a run that serves its callers
-pub report_serves : AcceptedIsTyped → MachinesAreSound → RunsServeCallers → ReportServesCallers
-report_serves accepted sound serve arguments left report before after journal (inl silence) reported = absurd (let none = silence.nothing.journal in cc)
-report_serves accepted sound serve arguments left report before after journal (inr a) reported =
+-- the journal of a report is a run that serves its callers and keeps traps to them
+pub report_is_run : AcceptedIsTyped → MachinesAreSound → RunsServeCallers → SourcesHandTrapsOn → RunsKeepTraps → ReportIsRun
+report_is_run accepted sound serve hand keep arguments left report before after journal (inl silence) reported = absurd (let none = silence.nothing.journal in cc)
+report_is_run accepted sound serve hand keep arguments left report before after journal (inr a) reported =
     let due = run_due a.request a.source report.journal report.refusal a.answered.due journal reported a.answered.is_due in
     let run = is_run due.program a.request.limits.events journal a.answered.due.status due.has_status in
     record {
@@ -59,4 +64,5 @@ report_serves accepted sound serve arguments left report before after journal (i
       machine = due.machine;
       run = run;
       serves = run_serves accepted sound serve a.source a.request.limits due.program journal due.machine run;
+      traps = run_keeps_traps hand keep a.source a.request.limits due.program journal due.machine run;
     }

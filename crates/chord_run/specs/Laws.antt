@@ -1,4 +1,4 @@
--- What holds of each source: it is accepted and has one machine, which is sound and serves its callers, or it has one cause of a refusal with one line.
+-- What holds of each source: it is accepted and has one machine, which is sound, serves its callers and keeps traps to them, or it has one cause of a refusal with one line.
 use Rattle.std.specs.Prelude.{◌≡◌, ℕ, ◌⊎◌, List, Option, Some}
 use Rattle.chord_base.specs.Machine.{IsRun}
 use Rattle.chord_base.specs.Meaning.{Program}
@@ -15,6 +15,7 @@ use Rattle.chord_run.specs.declared.refusal.Refusal.{Refusal}
 use Rattle.chord_run.specs.declared.report.Report.{Report}
 use Rattle.chord_source.specs.Callers.{ServesCallers}
 use Rattle.chord_source.specs.Laws.{IsSoundMachine}
+use Rattle.chord_source.specs.Traps.{KeepsTraps}
 
 -- within its limits a source has at most one join machine
 abbrev pub HasOneMachine : Type 0
@@ -56,8 +57,12 @@ MachineIsSound = (source : List ℕ) (limits : Limits) (program : Program) → I
 abbrev pub MachineServesCallers : Type 0
 MachineServesCallers = (source : List ℕ) (limits : Limits) (program : Program) (journal : List Entry) → IsMachine source limits program → IsRun program journal → ServesCallers program journal
 
--- a journal is a run of a join machine of the source that these arguments are about, takes no message twice, and serves its callers
-pub record IsServedRun (arguments : List (List ℕ)) (left : Option (List ℕ)) (journal : List Entry) : Type 0 where
+-- in each run of a join machine of a source each trap stays with its body and that body's callers
+abbrev pub MachineKeepsTraps : Type 0
+MachineKeepsTraps = (source : List ℕ) (limits : Limits) (program : Program) (journal : List Entry) → IsMachine source limits program → IsRun program journal → KeepsTraps program journal
+
+-- a journal is a run of a join machine of the source that these arguments are about, takes no message twice, serves its callers, and keeps traps to them
+pub record IsReportedRun (arguments : List (List ℕ)) (left : Option (List ℕ)) (journal : List Entry) : Type 0 where
   pub request : Request
   pub requested : Requests arguments request
   pub source : List ℕ
@@ -66,9 +71,10 @@ pub record IsServedRun (arguments : List (List ℕ)) (left : Option (List ℕ)) 
   pub machine : IsMachine source request.limits program
   pub run : IsRun program journal
   pub serves : ServesCallers program journal
+  pub traps : KeepsTraps program journal
 
 -- where the headline holds, the journal of the report is such a run
-abbrev pub ReportServesCallers : Type 0
-ReportServesCallers =
+abbrev pub ReportIsRun : Type 0
+ReportIsRun =
     (arguments : List (List ℕ)) (left : Option (List ℕ)) (report : Report) (before after : Option (List ℕ)) (journal : List Entry) →
-    IsSilence report before after ⊎ Answers arguments left report before after → report.journal ≡ Some journal → IsServedRun arguments left journal
+    IsSilence report before after ⊎ Answers arguments left report before after → report.journal ≡ Some journal → IsReportedRun arguments left journal

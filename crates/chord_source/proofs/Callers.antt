@@ -40,12 +40,12 @@ in_middle e [] after = inl refl
 in_middle e (x ∷ before) after = inr (in_middle e before after)
 
 -- a list with an entry in it, backwards
-reversed_parts : (before after : List Entry) (e : Entry) → reverse (before ++ e ∷ after) ≡ reverse after ++ e ∷ reverse before
+pub reversed_parts : (before after : List Entry) (e : Entry) → reverse (before ++ e ∷ after) ≡ reverse after ++ e ∷ reverse before
 reversed_parts before after e =
     reverse-append before (e ∷ after) ∙ ap (λ (z : List Entry). z ++ reverse before) (reverse-append (e ∷ []) after) ∙ append_assoc (reverse after) (e ∷ []) (reverse before)
 
 -- an entry of a list is one of it backwards
-in_reversed : (e : Entry) (entries : List Entry) → IsIn e entries → IsIn e (reverse entries)
+pub in_reversed : (e : Entry) (entries : List Entry) → IsIn e entries → IsIn e (reverse entries)
 in_reversed e entries i =
     let s = stands_in e entries i in
     subst (λ (z : List Entry). IsIn e z) (sym (ap reverse s.parts ∙ reversed_parts s.before s.after e)) (in_middle e (reverse s.after) (reverse s.before))
@@ -55,7 +55,7 @@ in_forwards : (e : Entry) (entries : List Entry) → IsIn e (reverse entries) �
 in_forwards e entries i = subst (λ (z : List Entry). IsIn e z) (reverse-reverse entries) (in_reversed e (reverse entries) i)
 
 -- what stands before an entry of a past is a past
-past_before : (p : Program) (later h : List Entry) → IsPast p (later ++ h) → IsPast p h
+pub past_before : (p : Program) (later h : List Entry) → IsPast p (later ++ h) → IsPast p h
 past_before p [] h r = r
 past_before p (x ∷ later) h r = past_before p later h r.0
 
@@ -69,29 +69,29 @@ in_before p (x ∷ later) h e r i l =
     ]
 
 -- a body that makes an ask is none that asks nothing
-asks_not : (p : Program) (h : List Entry) (b c : ℕ) (w : What) → asked p (doing p h b) ≡ None → c ≡ b → Asks p h c w → ⊥
+pub asks_not : (p : Program) (h : List Entry) (b c : ℕ) (w : What) → asked p (doing p h b) ≡ None → c ≡ b → Asks p h c w → ⊥
 asks_not p h b c w none y a = none-some _ (sym none ∙ subst (λ z. asked p (doing p h z) ≡ Some (record { what = w; depth = a.0 })) y a.1)
 
--- the entry that comes next is of no later body that asks nothing
-next_is_lower : (p : Program) (h : List Entry) (b n c : ℕ) (w : What) → length h < b → asked p (doing p h b) ≡ None → n ≡ length h → Comes p h n c w → c ≡ b → ⊥
-next_is_lower p h b n c Begun l none i f y = (let z = f.1 in absurd (omega (arith, z, l, y)))
-next_is_lower p h b n c (Fired k o ms vs) l none i f y = (let z = f.0 in absurd (omega (arith, z, l, i, y)))
-next_is_lower p h b n c (Made k) l none i f y = asks_not p h b c (Made k) none y f
-next_is_lower p h b n c (Sent o j vs) l none i f y = asks_not p h b c (Sent o j vs) none y f
-next_is_lower p h b n c (Called o j vs) l none i f y = asks_not p h b c (Called o j vs) none y f
-next_is_lower p h b n c (Printed t) l none i f y = asks_not p h b c (Printed t) none y f
-next_is_lower p h b n c (Ended x) l none i f y = asks_not p h b c (Ended x) none y f
+-- the entry that comes next is of no body that asks nothing, but for a body that begins with it
+pub next_is_other : (p : Program) (h : List Entry) (b n c : ℕ) (w : What) → (b ≡ length h → ⊥) → asked p (doing p h b) ≡ None → n ≡ length h → Comes p h n c w → c ≡ b → ⊥
+next_is_other p h b n c Begun l none i f y = l (let z : length h ≡ 0 = ap length f.0 in let k = f.1 in omega (arith, z, k, y))
+next_is_other p h b n c (Fired k o ms vs) l none i f y = l (let z = f.0 in omega (arith, z, i, y))
+next_is_other p h b n c (Made k) l none i f y = asks_not p h b c (Made k) none y f
+next_is_other p h b n c (Sent o j vs) l none i f y = asks_not p h b c (Sent o j vs) none y f
+next_is_other p h b n c (Called o j vs) l none i f y = asks_not p h b c (Called o j vs) none y f
+next_is_other p h b n c (Printed t) l none i f y = asks_not p h b c (Printed t) none y f
+next_is_other p h b n c (Ended x) l none i f y = asks_not p h b c (Ended x) none y f
 
 -- after a past there are no bodies but those that its entries began
 absent_above : (p : Program) (h : List Entry) (b : ℕ) → IsPast p h → length h ≤ b → doing p h b ≡ Absent
 absent_above p [] b r l = refl
 absent_above p (x ∷ h) b r l =
     let before = absent_above p h b r.0 (omega (arith, l)) in
-    let other : (x.body == b) ≡ false = ne_eqb x.body b (next_is_lower p h b x.number x.body x.what (omega (arith, l)) (ap (asked p) before) r.1.numbered r.1.comes) in
+    let other : (x.body == b) ≡ false = ne_eqb x.body b (next_is_other p h b x.number x.body x.what (λ e. omega (arith, l, e)) (ap (asked p) before) r.1.numbered r.1.comes) in
     rw (other, before) (heard_absent x.what (serves p x.body h))
 
 -- a body that asks began before
-asks_early : (p : Program) (h : List Entry) (b : ℕ) (w : What) → IsPast p h → Asks p h b w → b < length h
+pub asks_early : (p : Program) (h : List Entry) (b : ℕ) (w : What) → IsPast p h → Asks p h b w → b < length h
 asks_early p h b w r a =
     elim (cases_lt b (length h)) [
       | inl l ↦ l

@@ -10,3 +10,4 @@ mod Firings
 pub mod SoundRuns
 mod SourceRuns
 mod Callers
+mod Traps

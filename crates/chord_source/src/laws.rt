@@ -4,6 +4,7 @@
 ghost use Rattle.chord_source.specs.Callers.{RunsServeCallers};
 ghost use Rattle.chord_source.specs.Laws.{GoodPlays, EachEnds, MachinesAreSound};
 ghost use Rattle.chord_source.specs.Sources.{SoundRuns};
+ghost use Rattle.chord_source.specs.Traps.{RunsKeepTraps, SourcesHandTrapsOn};
 
 /// A body that keeps to its static types never goes wrong: its messages have the arguments of their methods, and it gives
 /// a value of its result's type.
@@ -26,6 +27,16 @@ pub fn sound()
 /// the one firing that took its call, and each other caller waits.
 pub fn callers()
     ensures { RunsServeCallers }
+{}
+
+/// The join machine of a source hands traps on: a body whose call is answered by a trap asks its own end by that trap. In each
+/// run of a machine that does, a body that ends by a trap got no trap as an answer, or its last entry before is a call and the
+/// trap is the end of the body that served it. The trap ends that body, which has no later entry. A body that waits for the
+/// call which it serves asks its own end by the same trap and has no other entry from there on, and what every other body
+/// does stays as it was.
+pub fn traps()
+    ensures sources { SourcesHandTrapsOn }
+    ensures runs { RunsKeepTraps }
 {}
 
 /// Any code whose bodies play what those of a source do is sound in every run, and its runs are the source's.

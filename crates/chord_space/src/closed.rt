@@ -71,7 +71,6 @@ impl<P: Carry> Space<P> {
             table,
             events,
             heads: _,
-            breadth: _,
         } = self;
         let Desk { seat, above: _ } = desk;
         let slots = table.close_with(seat);

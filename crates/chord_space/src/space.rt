@@ -1,5 +1,5 @@
 //! The space and its desks.
-ghost use Rattle.std.specs.Prelude.{◌≡◌, ℕ, ◌<◌, ◌≤◌, false, [], None, IfOk, replicate};
+ghost use Rattle.std.specs.Prelude.{◌≡◌, ℕ, ◌+◌, ◌<◌, ◌≤◌, false, [], None, IfOk, replicate};
 ghost use Rattle.chord_code.specs.Sound.{IsSoundCode};
 ghost use Rattle.chord_rule.specs.Kinds.{newcomer_first};
 ghost use Rattle.chord_rule.specs.Layout.{spread, breadth_for, word_count};
@@ -42,9 +42,7 @@ pub struct Space<P: Carry> {
     pub(crate) table: Table<Option<P>, View, Key, Law<P>, Global>,
     pub(crate) events: u32,
     pub(crate) heads: usize,
-    // How many words there are of which each number has one.
-    pub(crate) breadth: usize,
-    ghost sized: { (table.shared.key.limits.events ≡ events) × (table.shared.table_id.words ≡ word_count events heads) × (table.shared.table_id.slots ≡ events) × (0 < events) × (events ≤ 65536) × (heads ≡ widest table.shared.key.code.value) × (heads ≤ 16) × (breadth ≡ breadth_for events) × (breadth ≤ 65536) },
+    ghost sized: { (table.shared.key.limits.events ≡ events) × (table.shared.table_id.words ≡ word_count events heads) × (table.shared.table_id.slots ≡ events) × (0 < events) × (events ≤ 65536) × (heads ≡ widest table.shared.key.code.value) × (heads ≤ 16) },
 }
 
 /// A seat at the table: what its view says it keeps and has in hand. Between two calls no slot is out with it.
@@ -96,18 +94,18 @@ fn zeros(alloc: Global, words: usize, events: usize) -> Result<Vec<u64>, AllocEr
 fn spread_of(number: u32) -> usize
     ensures word { result ≡ spread number }
     ensures inside { (events : ℕ) → number < events → result < breadth_for events }
+    ensures few { result ≤ number + 56 }
 {
     let number = number as usize;
-    number / 64 * 64 + number % 8 * 8 + number / 8 % 8
+    number + 8 * (number % 8)
 }
 
 /// How many words there are of which each of so many numbers has one.
 fn breadth_of(events: u32) -> usize
-    requires few { events ≤ 65536 }
     ensures breadth { result ≡ breadth_for events }
-    ensures few { result ≤ 65536 }
+    ensures few { result ≤ events + 56 }
 {
-    (events as usize + 63) / 64 * 64
+    events as usize + 56
 }
 
 impl<P: Carry> Space<P> {
@@ -141,7 +139,6 @@ impl<P: Carry> Space<P> {
             table,
             events,
             heads,
-            breadth,
         };
         Ok((space, Desk { seat, above: 0 }))
     }
@@ -161,7 +158,7 @@ impl<P: Carry> Space<P> {
         ensures word { result ≡ place_at self.now.events number }
         ensures inside { result < self.now.table.shared.table_id.words }
     {
-        1 + self.breadth + spread_of(number)
+        1 + breadth_of(self.events) + spread_of(number)
     }
 
     /// Which word is the head for this method of the object: they lie behind the place words.
@@ -170,7 +167,7 @@ impl<P: Carry> Space<P> {
         ensures word { result ≡ head_at self.now.events (heads self.now) object.number method }
         ensures inside { result < self.now.table.shared.table_id.words }
     {
-        let first = 1 + 2 * self.breadth;
+        let first = 1 + 2 * breadth_of(self.events);
         first + spread_of(object.number) * self.heads + method as usize
     }
 }

@@ -6,6 +6,7 @@ use Rattle.chord_space.proofs.space.Space.head_word.Goals as goal
 pub returns-clause-inside : goal.returns-clause-inside
 returns-clause-inside g c = let sized = c.args.self.now.sized in let bounds = c.requires.bounds in let inside = c.spread_of.ensures.inside c.args.self.now.events bounds.0 in
     let few = subst (λ (w : ℕ). c.args.method < w) (sym sized.5) bounds.1 in
-    let row = mul-add-lt c.spread_of.result c.args.self.now.heads c.args.method c.args.self.now.breadth (omega (arith, inside, sized.7)) few in
-    let wide = subst (λ (b : ℕ). c.args.self.now.table.shared.table_id.words ≡ 1 + 2 * b + c.args.self.now.heads * b) (sym sized.7) sized.1 in
-    let turned = mul_comm c.args.self.now.heads c.args.self.now.breadth in omega (arith, row, wide, turned)
+    let breadth = c.breadth_of.ensures.breadth in
+    let row = mul-add-lt c.spread_of.result c.args.self.now.heads c.args.method c.breadth_of.result (omega (arith, inside, breadth)) few in
+    let wide = subst (λ (b : ℕ). c.args.self.now.table.shared.table_id.words ≡ 1 + 2 * b + c.args.self.now.heads * b) (sym breadth) sized.1 in
+    let turned = mul_comm c.args.self.now.heads c.breadth_of.result in omega (arith, row, wide, turned)
