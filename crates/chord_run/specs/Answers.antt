@@ -30,10 +30,11 @@ pub record Answers (arguments : List (List ℕ)) (left : Option (List ℕ)) (rep
 abbrev pub IsSilent : ℕ → Type 0
 IsSilent status = (status ≡ 2) ⊎ (status ≡ 3) ⊎ (status ≡ 7)
 
--- nothing is written, and the report has neither a journal nor a refusal
+-- nothing is written, and the report has no journal, no refusal and no table
 pub record WritesNothing (report : Report) (before after : Option (List ℕ)) : Type 0 where
   pub journal : report.journal ≡ None
   pub refusal : report.refusal ≡ None
+  pub table : report.table ≡ None
   pub written : after ≡ before
 
 -- one of these statuses, and nothing is written

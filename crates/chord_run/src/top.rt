@@ -89,7 +89,7 @@ pub fn chord<R: Threads + Wait + Sync, S: Source, K: Sink, G: Gate + Sync>(
     ensures made_unread { (request : asked.Request) (k : ℕ) → Requests (argument_bytes arguments.now) request → words.made_from request.mode ≡ Some k
         → (S.left source.new ≡ S.left source.old) × (S.faults source.new ≡ S.faults source.old) }
 
-    // With 2, 3 and 7 nothing is written, and the report has neither a journal nor a refusal.
+    // With 2, 3 and 7 nothing is written, and the report has no journal, no refusal and no table.
     ensures silent { IsSilent result.status → IsSilence result (K.taken sink.old) (K.taken sink.new) }
 
     // The report has the closed table of a run that workers made: as many draws on the table gave a number as the journal has
