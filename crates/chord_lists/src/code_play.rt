@@ -72,8 +72,10 @@ impl<'a> CodePlay<'a> {
 }
 
 impl<'a> Playable for CodePlay<'a> {
-    ghost use Rattle.chord_code.specs.Meaning.{code_program};
-    ghost use Rattle.chord_lists.specs.CodeStands.{StandsAfter};
+    ghost use Rattle.std.specs.Prelude.{◌≡◌, ◌++◌, reverse, take, OnOk};
+    ghost use Rattle.chord_base.specs.Bodies.{served_among};
+    ghost use Rattle.chord_code.specs.Meaning.{code_program, method_is_sync};
+    ghost use Rattle.chord_lists.specs.CodeStands.{StandsAfter, StoodOrAlone, IsCut};
 
     type Bodies = CodeBodies;
 
@@ -92,7 +94,10 @@ impl<'a> Playable for CodePlay<'a> {
         alloc: Global,
         bodies: &mut CodeBodies,
         number: u32,
-    ) -> Result<Turn, AllocError> {
+    ) -> Result<Turn, AllocError>
+        ensures cut { OnOk result (IsCut bodies.old.ready.items bodies.new.ready.items) }
+        ensures top { OnOk result (bodies.new.homes.items ≡ bodies.old.homes.items ++ take 1 (reverse bodies.new.ready.items)) }
+    {
         let turn = go_on(alloc, self.code, self.limits, bodies, number)?;
         Ok(turn)
     }
@@ -106,7 +111,9 @@ impl<'a> Playable for CodePlay<'a> {
         object: Object,
         methods: &[u8],
         members: &mut Members,
-    ) -> Result<(), AllocError> {
+    ) -> Result<(), AllocError>
+        ensures reuse { OnOk result (StoodOrAlone bodies.old.tasks.items bodies.new.tasks.items (served_among (method_is_sync self.now.code.now object.class) methods.now members.old)) }
+    {
         let served = served_by(self.code, object.class, methods, members.items());
         begin_body(
             alloc,

@@ -57,8 +57,8 @@ resume_with-requires-clause-may c =
     subst (λ (t : Task). MayResume code t.limits t c.args.number c.args.chord c.args.object c.args.members.now (c.add_all_arguments.new.values)) (sym e)
     (subst (λ (vs : List Value). MayResume code k.task.limits k.task c.args.number c.args.chord c.args.object c.args.members.now vs) (sym first) k.may)
 
-pub returns : goal.returns
-returns c =
+pub returns-clause-began : goal.returns-clause-began
+returns-clause-began c =
     λ h vs played s f.
     let code = c.args.code.now in
     let limits = c.args.limits.now in
