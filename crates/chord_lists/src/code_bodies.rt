@@ -327,6 +327,7 @@ fn begin_at(
     requires fits { FitsAt (code_program code.now limits.now) bodies.old chord object members.old at }
     ensures began { IfOk result (λ _. Began (code_program code.now limits.now) (StandsWith code.now limits.now bodies.old (at ∷ reverse bodies.old.over.items)) (StandsAfter code.now limits.now bodies.new) number chord object members.old) }
     ensures ready { OnOk result (reverse bodies.new.ready.items ≡ topped_by at (reverse bodies.old.ready.items)) }
+    ensures top { OnOk result (bodies.new.homes.items ≡ bodies.old.homes.items ++ take 1 (reverse bodies.new.ready.items)) }
     ensures tasks { OnOk result (length bodies.new.tasks.items ≡ length bodies.old.tasks.items) }
 {
     let _parts = code.parts();
@@ -375,7 +376,8 @@ fn begin_alone(
     requires may { MayBegin (code_program code.now limits.now) (StandsAfter code.now limits.now bodies.old) number chord object members.old }
     requires call { Serves (code_program code.now limits.now) chord object members.old None }
     requires none { (i : ℕ) → over_at bodies.old.tasks.items i ≡ false }
-    ensures { IfOk result (λ _. Began (code_program code.now limits.now) (StandsAfter code.now limits.now bodies.old) (StandsAfter code.now limits.now bodies.new) number chord object members.old) }
+    ensures began { IfOk result (λ _. Began (code_program code.now limits.now) (StandsAfter code.now limits.now bodies.old) (StandsAfter code.now limits.now bodies.new) number chord object members.old) }
+    ensures top { OnOk result (bodies.new.homes.items ≡ bodies.old.homes.items ++ take 1 (reverse bodies.new.ready.items)) }
 {
     let at = place_after(&bodies.tasks);
     let _parts = code.parts();
@@ -416,6 +418,7 @@ pub fn begin_body(
     requires may { MayBegin (code_program code.now limits.now) (StandsAfter code.now limits.now bodies.old) number chord object members.old }
     requires call { Serves (code_program code.now limits.now) chord object members.old served }
     ensures began { IfOk result (λ _. Began (code_program code.now limits.now) (StandsAfter code.now limits.now bodies.old) (StandsAfter code.now limits.now bodies.new) number chord object members.old) }
+    ensures top { OnOk result (bodies.new.homes.items ≡ bodies.old.homes.items ++ take 1 (reverse bodies.new.ready.items)) }
     ensures reuse { OnOk result (StoodOrAlone bodies.old.tasks.items bodies.new.tasks.items served) }
 {
     match served {

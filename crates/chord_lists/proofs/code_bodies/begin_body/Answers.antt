@@ -57,5 +57,5 @@ pub returns-in_ok-begin_alone-in-None-next_over-clause-began : goal.returns-in_o
 returns-in_ok-begin_alone-in-None-next_over-clause-began c =
     λ h vs played s f.
     let none = rw (c.in-None-next_over.is, c.deref-in-None.ensures.value) at c.next_over.ensures.none in
-    c.in_ok-begin_alone-in-None-next_over.ensures h vs played
+    c.in_ok-begin_alone-in-None-next_over.ensures.began h vs played
     (stands_over c.args.code.now c.args.limits.now c.args.bodies.now c.next_over.new.over _ h s (none_over c.args.bodies.now.tasks.items _ none)) f
