@@ -359,7 +359,7 @@ fn place_after(tasks: &[Task]) -> u32
     tasks.len() as u32
 }
 
-/// Begins the body of a firing that serves no caller in a task of its own, where each task has a body.
+/// Begins the body of a firing that serves no caller in a task of its own.
 #[inline(never)]
 fn begin_alone(
     alloc: Global,
@@ -375,7 +375,6 @@ fn begin_alone(
     requires sound { IsSound (code_program code.now limits.now) }
     requires may { MayBegin (code_program code.now limits.now) (StandsAfter code.now limits.now bodies.old) number chord object members.old }
     requires call { Serves (code_program code.now limits.now) chord object members.old None }
-    requires none { (i : ℕ) → over_at bodies.old.tasks.items i ≡ false }
     ensures began { IfOk result (λ _. Began (code_program code.now limits.now) (StandsAfter code.now limits.now bodies.old) (StandsAfter code.now limits.now bodies.new) number chord object members.old) }
     ensures top { OnOk result (bodies.new.homes.items ≡ bodies.old.homes.items ++ take 1 (reverse bodies.new.ready.items)) }
 {
