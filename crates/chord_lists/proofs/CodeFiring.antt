@@ -1,5 +1,5 @@
 -- What a firing makes of the bodies of a run of a code.
-use Rattle.std.proofs.Common.{◌≡◌, ℕ, suc, ◌<◌, ◌≤◌, true, false, ◌==◌, List, [], ◌∷◌, ◌++◌, length, Option, Some, None, refl, sym, ap, ◌∙◌, subst, arith, inl, inr, set, reverse, length-append}
+use Rattle.std.proofs.Common.{◌≡◌, ℕ, suc, ◌<◌, ◌≤◌, true, false, ◌==◌, List, [], ◌∷◌, ◌++◌, length, Option, Some, None, refl, sym, ap, ◌∙◌, subst, arith, inl, inr, set, take, reverse, length-append}
 use Rattle.std.specs.Prelude.{slice_get}
 use Rattle.std.proofs.lemmas.Option.{slice_get_within}
 use Rattle.std.proofs.lemmas.List.{length-set}
@@ -211,6 +211,11 @@ topped_has at (i ∷ list) =
 -- and so does each that stood there
 topped_keeps : (at j : ℕ) (list : List ℕ) → has j list ≡ true → has j (topped_by at list) ≡ true
 topped_keeps at j list e = elim (either (is_on_top at list)) [ inl y ↦ rw y e | inr o ↦ rw o (has_later j at list e) ]
+
+-- the place that was put on top is the first
+pub topped_first : (at : ℕ) (list : List ℕ) → take 1 (topped_by at list) ≡ at ∷ []
+topped_first at [] = refl
+topped_first at (i ∷ list) = elim (either (i == at)) [ inl y ↦ rw y (ap (λ z. z ∷ []) (eqb-true i at y)) | inr o ↦ rw o refl ]
 
 -- a task that begins a body is put on top of the list of the ready ones
 ready_topped : (tasks : List Task) (at : ℕ) (t : Task) (ready : List ℕ) → AreReady tasks ready → AreReady (set tasks at t) (topped_by at ready)

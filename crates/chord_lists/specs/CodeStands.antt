@@ -1,5 +1,5 @@
 -- What the bodies of a run of a code are after a history: its entries in order, and tasks, each of which made some of them.
-use Rattle.std.specs.Prelude.{is_none, ◌≡◌, ℕ, ◌≤◌, ◌==◌, List, [], ◌∷◌, ◌++◌, reverse, length, Bool, true, false, Option, Some, None, slice_get, if◌then◌else◌}
+use Rattle.std.specs.Prelude.{is_none, ◌≡◌, ℕ, ◌≤◌, ◌⊎◌, ◌==◌, List, [], ◌∷◌, ◌++◌, reverse, length, Bool, true, false, Option, Some, None, slice_get, if◌then◌else◌}
 use Rattle.chord_base.specs.declared.event.Entry.{Entry}
 use Rattle.chord_base.specs.declared.event.Limits.{Limits}
 use Rattle.chord_base.specs.declared.event.What.{What}
@@ -93,6 +93,10 @@ over_at tasks i = over_in (slice_get tasks i)
 -- each task that has no body left stands in the list; others may stand there too
 pub record AreOver (tasks : List Task) (over : List ℕ) : Type 0 where
   pub all : (i : ℕ) → over_at tasks i ≡ true → has i over ≡ true
+
+-- a body begins in a task that stood there, or in one more, where it serves no call and no task was over
+abbrev pub StoodOrAlone : List Task → List Task → Option ℕ → Type 0
+StoodOrAlone old new served = (length new ≡ length old) ⊎ ((served ≡ None) × ((i : ℕ) → over_at old i ≡ false))
 
 -- ## The whole
 

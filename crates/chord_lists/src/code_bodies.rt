@@ -1,7 +1,7 @@
 //! The bodies of a run of a code: tasks, and the entries that these made.
 #![tactic(auto)]
 
-ghost use Rattle.std.specs.Prelude.{◌≡◌, ◌<◌, ◌≤◌, ◌+◌, ℕ, ◌++◌, [], List, reverse, length, IfOk, OnOk, IfSome, IfNone, Some, None, true, false, slice_get, ◌∷◌, is_none, if◌then◌else◌};
+ghost use Rattle.std.specs.Prelude.{◌≡◌, ◌<◌, ◌≤◌, ◌+◌, ℕ, ◌++◌, [], List, reverse, length, take, IfOk, OnOk, IfSome, IfNone, Some, None, true, false, slice_get, ◌∷◌, is_none, if◌then◌else◌};
 ghost use Rattle.chord_base.specs.Bounds.{IsJournal};
 ghost use Rattle.chord_base.specs.Story.{IsOwn, IsSound};
 ghost use Rattle.chord_base.specs.declared.event.Entry.{Entry};
@@ -9,7 +9,7 @@ ghost use Rattle.chord_base.specs.Bodies.{served_among};
 ghost use Rattle.chord_code.specs.Meaning.{code_program, method_is_sync};
 ghost use Rattle.chord_lists.specs.Engine.{main_begun, IsRunOfLength, MayGoOn, Went, MayBegin, Began};
 ghost use Rattle.chord_task.specs.Standing.{view_of};
-ghost use Rattle.chord_lists.specs.CodeStands.{StandsAfter, StandsWith, IsCut, AreReady, AreOver, ready_at, over_at, is_on_top, topped_by, turn_to, WentAt, IsMessageAt, AreMessagesAt, message_at, sent_arguments, sent_values, home, Serves, FitsAt, MayReplay, Replayed};
+ghost use Rattle.chord_lists.specs.CodeStands.{StandsAfter, StandsWith, IsCut, AreReady, AreOver, StoodOrAlone, ready_at, over_at, is_on_top, topped_by, turn_to, WentAt, IsMessageAt, AreMessagesAt, message_at, sent_arguments, sent_values, home, Serves, FitsAt, MayReplay, Replayed};
 
 use crate::engine::Turn;
 use chord_base::event::{Entry, Limits, What};
@@ -155,7 +155,9 @@ fn make(
     requires sound { IsSound (code_program code.now limits.now) }
     requires ready { ready_at bodies.old.tasks.items at ≡ true }
     requires may { MayGoOn (code_program code.now limits.now) (StandsAfter code.now limits.now bodies.old) number }
-    ensures { IfOk result (λ turn. (h : List Entry) → IsRunOfLength (code_program code.now limits.now) number h → StandsAfter code.now limits.now bodies.old h → WentAt (code_program code.now limits.now) bodies.old.tasks.items at (StandsAfter code.now limits.now bodies.new) h turn) }
+    ensures went { IfOk result (λ turn. (h : List Entry) → IsRunOfLength (code_program code.now limits.now) number h → StandsAfter code.now limits.now bodies.old h → WentAt (code_program code.now limits.now) bodies.old.tasks.items at (StandsAfter code.now limits.now bodies.new) h turn) }
+    ensures ready { OnOk result (bodies.new.ready.items ≡ bodies.old.ready.items) }
+    ensures homed { OnOk result (bodies.new.homes.items ≡ bodies.old.homes.items ++ at ∷ []) }
 {
     let _parts = code.parts();
     let task = &mut bodies.tasks[at as usize];
@@ -202,7 +204,9 @@ pub fn go_on(
     requires room { number < 65536 }
     requires sound { IsSound (code_program code.now limits.now) }
     requires may { MayGoOn (code_program code.now limits.now) (StandsAfter code.now limits.now bodies.old) number }
-    ensures { IfOk result (λ turn. Went (code_program code.now limits.now) (StandsAfter code.now limits.now bodies.old) (StandsAfter code.now limits.now bodies.new) number turn) }
+    ensures went { IfOk result (λ turn. Went (code_program code.now limits.now) (StandsAfter code.now limits.now bodies.old) (StandsAfter code.now limits.now bodies.new) number turn) }
+    ensures cut { OnOk result (IsCut bodies.old.ready.items bodies.new.ready.items) }
+    ensures top { OnOk result (bodies.new.homes.items ≡ bodies.old.homes.items ++ take 1 (reverse bodies.new.ready.items)) }
 {
     match next_ready(&bodies.tasks, &mut bodies.ready) {
         None => Ok(Turn::Over),
@@ -321,7 +325,10 @@ fn begin_at(
     requires sound { IsSound (code_program code.now limits.now) }
     requires may { MayBegin (code_program code.now limits.now) (StandsWith code.now limits.now bodies.old (at ∷ reverse bodies.old.over.items)) number chord object members.old }
     requires fits { FitsAt (code_program code.now limits.now) bodies.old chord object members.old at }
-    ensures { IfOk result (λ _. Began (code_program code.now limits.now) (StandsWith code.now limits.now bodies.old (at ∷ reverse bodies.old.over.items)) (StandsAfter code.now limits.now bodies.new) number chord object members.old) }
+    ensures began { IfOk result (λ _. Began (code_program code.now limits.now) (StandsWith code.now limits.now bodies.old (at ∷ reverse bodies.old.over.items)) (StandsAfter code.now limits.now bodies.new) number chord object members.old) }
+    ensures ready { OnOk result (reverse bodies.new.ready.items ≡ topped_by at (reverse bodies.old.ready.items)) }
+    ensures top { OnOk result (bodies.new.homes.items ≡ bodies.old.homes.items ++ take 1 (reverse bodies.new.ready.items)) }
+    ensures tasks { OnOk result (length bodies.new.tasks.items ≡ length bodies.old.tasks.items) }
 {
     let _parts = code.parts();
     let mut values = Values::none();
@@ -352,7 +359,7 @@ fn place_after(tasks: &[Task]) -> u32
     tasks.len() as u32
 }
 
-/// Begins the body of a firing that serves no caller in a task of its own, where each task has a body.
+/// Begins the body of a firing that serves no caller in a task of its own.
 #[inline(never)]
 fn begin_alone(
     alloc: Global,
@@ -368,8 +375,8 @@ fn begin_alone(
     requires sound { IsSound (code_program code.now limits.now) }
     requires may { MayBegin (code_program code.now limits.now) (StandsAfter code.now limits.now bodies.old) number chord object members.old }
     requires call { Serves (code_program code.now limits.now) chord object members.old None }
-    requires none { (i : ℕ) → over_at bodies.old.tasks.items i ≡ false }
-    ensures { IfOk result (λ _. Began (code_program code.now limits.now) (StandsAfter code.now limits.now bodies.old) (StandsAfter code.now limits.now bodies.new) number chord object members.old) }
+    ensures began { IfOk result (λ _. Began (code_program code.now limits.now) (StandsAfter code.now limits.now bodies.old) (StandsAfter code.now limits.now bodies.new) number chord object members.old) }
+    ensures top { OnOk result (bodies.new.homes.items ≡ bodies.old.homes.items ++ take 1 (reverse bodies.new.ready.items)) }
 {
     let at = place_after(&bodies.tasks);
     let _parts = code.parts();
@@ -409,7 +416,9 @@ pub fn begin_body(
     requires sound { IsSound (code_program code.now limits.now) }
     requires may { MayBegin (code_program code.now limits.now) (StandsAfter code.now limits.now bodies.old) number chord object members.old }
     requires call { Serves (code_program code.now limits.now) chord object members.old served }
-    ensures { IfOk result (λ _. Began (code_program code.now limits.now) (StandsAfter code.now limits.now bodies.old) (StandsAfter code.now limits.now bodies.new) number chord object members.old) }
+    ensures began { IfOk result (λ _. Began (code_program code.now limits.now) (StandsAfter code.now limits.now bodies.old) (StandsAfter code.now limits.now bodies.new) number chord object members.old) }
+    ensures top { OnOk result (bodies.new.homes.items ≡ bodies.old.homes.items ++ take 1 (reverse bodies.new.ready.items)) }
+    ensures reuse { OnOk result (StoodOrAlone bodies.old.tasks.items bodies.new.tasks.items served) }
 {
     match served {
         Some(call) => {

@@ -72,8 +72,11 @@ impl<'a> CodePlay<'a> {
 }
 
 impl<'a> Playable for CodePlay<'a> {
-    ghost use Rattle.chord_code.specs.Meaning.{code_program};
-    ghost use Rattle.chord_lists.specs.CodeStands.{StandsAfter};
+    ghost use Rattle.std.specs.Prelude.{◌≡◌, ◌<◌, ◌++◌, reverse, slice_get, take, Some, IfOk, OnOk};
+    ghost use Rattle.chord_base.specs.Bodies.{served_among};
+    ghost use Rattle.chord_code.specs.Meaning.{code_program, method_is_sync};
+    ghost use Rattle.chord_lists.specs.CodeStands.{StandsAfter, StoodOrAlone, IsCut};
+    ghost use Rattle.chord_lists.specs.Engine.{MayGoOn, Went, MayBegin, Began};
 
     type Bodies = CodeBodies;
 
@@ -87,12 +90,13 @@ impl<'a> Playable for CodePlay<'a> {
         Ok(bodies)
     }
 
-    fn go_on(
-        &self,
-        alloc: Global,
-        bodies: &mut CodeBodies,
-        number: u32,
-    ) -> Result<Turn, AllocError> {
+    fn go_on(&self, alloc: Global, bodies: &mut CodeBodies, number: u32) -> Result<Turn, AllocError>
+        requires room { number < 65536 }
+        requires may { MayGoOn (code_program self.now.code.now self.now.limits.now) (StandsAfter self.now.code.now self.now.limits.now bodies.old) number }
+        ensures went { IfOk result (λ turn. Went (code_program self.now.code.now self.now.limits.now) (StandsAfter self.now.code.now self.now.limits.now bodies.old) (StandsAfter self.now.code.now self.now.limits.now bodies.new) number turn) }
+        ensures cut { OnOk result (IsCut bodies.old.ready.items bodies.new.ready.items) }
+        ensures top { OnOk result (bodies.new.homes.items ≡ bodies.old.homes.items ++ take 1 (reverse bodies.new.ready.items)) }
+    {
         let turn = go_on(alloc, self.code, self.limits, bodies, number)?;
         Ok(turn)
     }
@@ -106,7 +110,14 @@ impl<'a> Playable for CodePlay<'a> {
         object: Object,
         methods: &[u8],
         members: &mut Members,
-    ) -> Result<(), AllocError> {
+    ) -> Result<(), AllocError>
+        requires room { number < 65536 }
+        requires methods { slice_get ((code_program self.now.code.now self.now.limits.now).chords object.class) chord ≡ Some methods.now }
+        requires may { MayBegin (code_program self.now.code.now self.now.limits.now) (StandsAfter self.now.code.now self.now.limits.now bodies.old) number chord object members.old }
+        ensures began { IfOk result (λ _. Began (code_program self.now.code.now self.now.limits.now) (StandsAfter self.now.code.now self.now.limits.now bodies.old) (StandsAfter self.now.code.now self.now.limits.now bodies.new) number chord object members.old) }
+        ensures top { OnOk result (bodies.new.homes.items ≡ bodies.old.homes.items ++ take 1 (reverse bodies.new.ready.items)) }
+        ensures reuse { OnOk result (StoodOrAlone bodies.old.tasks.items bodies.new.tasks.items (served_among (method_is_sync self.now.code.now object.class) methods.now members.old)) }
+    {
         let served = served_by(self.code, object.class, methods, members.items());
         begin_body(
             alloc,

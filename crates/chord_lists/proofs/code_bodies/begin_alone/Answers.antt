@@ -47,8 +47,8 @@ resume_with-requires-clause-may c =
     subst (λ (vs : List Value). MayResume code t.limits t c.args.number c.args.chord c.args.object c.args.members.now vs) (sym first)
     (may_begin code limits c.args.bodies.now m.0 c.args.number c.args.chord c.args.object c.args.members.now m.1 t c.requires.sound m.3 m.2.so_long f serves spare.task spare.top spare.past spare.room)
 
-pub returns : goal.returns
-returns c =
+pub returns-clause-began : goal.returns-clause-began
+returns-clause-began c =
     λ h vs played s f.
     let code = c.args.code.now in
     let limits = c.args.limits.now in

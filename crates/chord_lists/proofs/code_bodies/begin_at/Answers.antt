@@ -1,4 +1,4 @@
-use Rattle.std.proofs.Common.{◌≡◌, ◌∙◌, ◌++◌, ◌∷◌, [], refl, sym, ap, subst, arith, length, Some, List, ℕ}
+use Rattle.std.proofs.Common.{◌≡◌, ◌∙◌, ◌++◌, ◌∷◌, [], refl, sym, ap, subst, arith, length, take, reverse, Some, List, ℕ}
 use Rattle.std.specs.Prelude.{slice_get}
 use Rattle.std.proofs.lemmas.Option.{get_or_from_slice_get, slice_get_within}
 use Rattle.chord_base.specs.declared.value.Value.{Value}
@@ -7,7 +7,7 @@ use Rattle.chord_task.specs.Past.{AddsOne}
 use Rattle.chord_task.specs.Standing.{view_of, IsTaskOf, MayResume}
 use Rattle.chord_lists.specs.Engine.{fired}
 use Rattle.chord_lists.specs.CodeStands.{sent_values}
-use Rattle.chord_lists.proofs.CodeFiring.{firing_sent, fired_at, host}
+use Rattle.chord_lists.proofs.CodeFiring.{firing_sent, fired_at, host, topped_first}
 use Rattle.chord_lists.proofs.CodeSteps.{listed_one}
 use Rattle.chord_lists.proofs.code_bodies.begin_at.Goals as goal
 
@@ -57,8 +57,8 @@ resume_with-requires-clause-may c =
     subst (λ (t : Task). MayResume code t.limits t c.args.number c.args.chord c.args.object c.args.members.now (c.add_all_arguments.new.values)) (sym e)
     (subst (λ (vs : List Value). MayResume code k.task.limits k.task c.args.number c.args.chord c.args.object c.args.members.now vs) (sym first) k.may)
 
-pub returns : goal.returns
-returns c =
+pub returns-clause-began : goal.returns-clause-began
+returns-clause-began c =
     λ h vs played s f.
     let code = c.args.code.now in
     let limits = c.args.limits.now in
@@ -79,6 +79,12 @@ returns c =
     refl
     c.in_ok-put_ready.ensures refl
     (c.in_ok-push.ensures.items ∙ ap (λ i. c.args.bodies.now.homes.items ++ i ∷ []) c.place_of.ensures)
+
+pub returns-clause-top : goal.returns-clause-top
+returns-clause-top c =
+    let homes = c.args.bodies.now.homes.items in
+    let first = ap (λ (z : List ℕ). take 1 z) c.in_ok-put_ready.ensures ∙ topped_first c.args.at (reverse c.args.bodies.now.ready.items) in
+    c.in_ok-push.ensures.items ∙ ap (λ i. homes ++ i ∷ []) c.place_of.ensures ∙ ap (λ z. homes ++ z) (sym first)
 
 pub place_of-requires : goal.place_of-requires
 place_of-requires c =

@@ -40,22 +40,19 @@ begin_alone-requires-clause-may c =
     let none = rw (c.in-None-next_over.is, c.deref-in-None.ensures.value) at c.next_over.ensures.none in
     (m.0, m.1, m.2, stands_over c.args.code.now c.args.limits.now c.args.bodies.now c.next_over.new.over _ m.0 m.3 (none_over c.args.bodies.now.tasks.items _ none), m.4, m.5)
 
-pub begin_alone-requires-clause-none : goal.begin_alone-requires-clause-none
-begin_alone-requires-clause-none c = rw (c.in-None-next_over.is, c.deref-in-None.ensures.value) at c.next_over.ensures.none
+pub returns-in_ok-begin_at-in-Some-clause-began : goal.returns-in_ok-begin_at-in-Some-clause-began
+returns-in_ok-begin_at-in-Some-clause-began c =
+    λ h vs played s f. c.in_ok-begin_at-in-Some.ensures.began h vs played (stands_later c.args.code.now c.args.limits.now c.args.bodies.now c.home_of-at.result h s) f
 
-pub returns-in_ok-begin_at-in-Some : goal.returns-in_ok-begin_at-in-Some
-returns-in_ok-begin_at-in-Some c =
-    λ h vs played s f. c.in_ok-begin_at-in-Some.ensures h vs played (stands_later c.args.code.now c.args.limits.now c.args.bodies.now c.home_of-at.result h s) f
-
-pub returns-in_ok-begin_at-in-Some-next_over : goal.returns-in_ok-begin_at-in-Some-next_over
-returns-in_ok-begin_at-in-Some-next_over c =
+pub returns-in_ok-begin_at-in-Some-next_over-clause-began : goal.returns-in_ok-begin_at-in-Some-next_over-clause-began
+returns-in_ok-begin_at-in-Some-next_over-clause-began c =
     λ h vs played s f.
     let left = rw (c.in-Some-next_over.is, c.deref-in-None.ensures.value) at c.next_over.ensures.left in
-    c.in_ok-begin_at-in-Some-next_over.ensures h vs played (stands_over c.args.code.now c.args.limits.now c.args.bodies.now c.next_over.new.over _ h s left) f
+    c.in_ok-begin_at-in-Some-next_over.ensures.began h vs played (stands_over c.args.code.now c.args.limits.now c.args.bodies.now c.next_over.new.over _ h s left) f
 
-pub returns-in_ok-begin_alone-in-None-next_over : goal.returns-in_ok-begin_alone-in-None-next_over
-returns-in_ok-begin_alone-in-None-next_over c =
+pub returns-in_ok-begin_alone-in-None-next_over-clause-began : goal.returns-in_ok-begin_alone-in-None-next_over-clause-began
+returns-in_ok-begin_alone-in-None-next_over-clause-began c =
     λ h vs played s f.
     let none = rw (c.in-None-next_over.is, c.deref-in-None.ensures.value) at c.next_over.ensures.none in
-    c.in_ok-begin_alone-in-None-next_over.ensures h vs played
+    c.in_ok-begin_alone-in-None-next_over.ensures.began h vs played
     (stands_over c.args.code.now c.args.limits.now c.args.bodies.now c.next_over.new.over _ h s (none_over c.args.bodies.now.tasks.items _ none)) f

@@ -6,6 +6,6 @@ make-requires-clause-may c =
     let m = c.requires.may in
     (m.0, m.1, stands_ready c.args.code.now c.args.limits.now c.args.bodies.now c.next_ready.new.ready m.0 m.2 (rw c.deref.ensures.value at c.next_ready.ensures.ready))
 
-pub returns-in-None : goal.returns-in-None
-returns-in-None c =
+pub returns-in-None-clause-went : goal.returns-in-None-clause-went
+returns-in-None-clause-went c =
     λ h played s. went_over c.args.code.now c.args.limits.now c.args.bodies.now c.next_ready.new.ready h s (rw (c.in-None.is, c.deref.ensures.value) at c.next_ready.ensures.none) (rw c.deref.ensures.value at c.next_ready.ensures.ready)

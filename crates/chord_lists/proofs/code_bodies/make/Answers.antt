@@ -51,8 +51,8 @@ turn-requires-clause-may c =
     subst (λ (x : Task). MayTurn (code_program code limits) (view_of x) c.args.number) (sym e)
     (may_turn code limits c.args.bodies.now m.0 c.args.number c.args.at t.0 c.requires.sound m.2 m.1.so_long t.1)
 
-pub returns : goal.returns
-returns c =
+pub returns-clause-went : goal.returns-clause-went
+returns-clause-went c =
     λ h played s.
     let code = c.args.code.now in
     let limits = c.args.limits.now in

@@ -11,7 +11,7 @@ returns-in_ok-begin-in-Fired c =
     let code = c.args.self.now.code.now in
     let limits = c.args.self.now.limits.now in
     let x = fired_again (code_program code limits) h c.args.entry.now c.in-Fired.chord c.in-Fired.object c.in-Fired.members c.in-Fired.field-3 c.in-Fired.is f in
-    subst (λ z. StandsAfter code limits c.begin.new.bodies (z ∷ h)) x.1 ((rw c.copied-members.ensures at c.in_ok-begin-in-Fired.ensures) h c.in-Fired.field-3 played s x.0)
+    subst (λ z. StandsAfter code limits c.begin.new.bodies (z ∷ h)) x.1 ((rw c.copied-members.ensures at c.in_ok-begin-in-Fired.ensures.began) h c.in-Fired.field-3 played s x.0)
 
 pub methods-methods-requires : goal.methods-methods-requires
 methods-methods-requires c =
