@@ -1,7 +1,7 @@
 -- Where the words of a table lie: the counter, then the cells, the place words and the heads.
 use Rattle.std.specs.Prelude.{ℕ, ◌+◌, ◌*◌, ◌%◌}
 
--- where the word of a number lies among those of all numbers. Eight numbers that follow each other lie at least eight words apart, so that desks which draw them in turn write to cache lines of their own
+-- where the word of a number lies among those of all numbers. Of seven numbers that follow each other any two lie at least nine words apart, so desks that draw them in turn write to cache lines of their own
 unfoldable pub spread : ℕ → ℕ
 spread i = i + 8 * (i % 8)
 
