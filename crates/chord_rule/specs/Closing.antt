@@ -7,6 +7,7 @@ use Rattle.chord_word.specs.declared.cells.Cell.{Cell}
 use Rattle.chord_word.specs.declared.cells.Cell.TheVariants as a_cell
 use Rattle.chord_word.specs.declared.cells.Word.{Word}
 use Rattle.chord_rule.specs.declared.view.View.{View}
+use Rattle.chord_rule.specs.Bags.{cell_of}
 use Rattle.chord_rule.specs.Hands.{IsUnarmed}
 use Rattle.chord_rule.specs.Ways.{LastSeen}
 
@@ -28,7 +29,20 @@ IsAsleep (a_cell.Woken x) = Unit {0}
 IsAsleep a_cell.Ready = Unit {0}
 IsAsleep _ = ⊥
 
--- the desk knows that nothing is left to do: it is the first one, which drew the beginning of `Main`; it has lent none, and has no duty, no claim and no message that is not armed; it looked at the counter and at each cell below, and no cell was woken or ready
+-- the desk has nothing in hand: it is the first one, which drew the beginning of `Main`; it has lent none, and has no duty, no claim and no message that is not armed
+pub record HasNothingInHand (v : View) : Type 0 where
+  pub first : v.first ≡ true
+  pub begun : v.drawn ≡ true
+  pub lent : v.lent ≡ 0
+  pub duties : v.duties ≡ []
+  pub claims : v.claims ≡ []
+  pub in_hand : (i : ℕ) → IsUnarmed v i → ⊥
+
+-- nobody has still to look after any of these cells: none is woken or ready
+abbrev pub AreAllAwake : (ℕ → Word) → Type 0
+AreAllAwake cells = (i : ℕ) → IsAsleep (cell_of cells i) → ⊥
+
+-- the desk knows that nothing is left to do: it has nothing in hand, looked at the counter and at each cell below, and no cell was woken or ready
 pub record MayClose (v : View) : Type 0 where
   pub first : v.first ≡ true
   pub begun : v.drawn ≡ true

@@ -3,7 +3,7 @@ use mathlib.Core.Option.{some}
 use lib.ListN.{get_elem?}
 use Rattle.chord_code.specs.Meaning.{code_program}
 use Rattle.chord_rule.specs.declared.view.View.{View}
-use Rattle.chord_rule.proofs.Closing.{closing}
+use Rattle.chord_rule.proofs.Closing.{closing, closing_awake}
 use Rattle.chord_rule.proofs.Knowing.{at_home, drew_all}
 use Rattle.chord_space.proofs.Items.{got_item, got_first}
 use Rattle.chord_space.proofs.space.Space.close.Goals as goal
@@ -21,6 +21,7 @@ returns-clause-sealed g c =
       desk = at;
       drawn_is = c.at_most-drawn.ensures ∙ (λ k. min (sym count k) (sym sized.0 k)) ∙ sym h.rule.agrees.stands.keeping.long;
       journal = drew_all g.P.Carry.entries g.P.Carry.arguments keeps p n (omega arith) m h.ghosts h.rule c.args.desk.seat.id v at settled.6 c.requires.alone.0 c.requires.alone.1;
+      at_rest = closing_awake g.P.Carry.entries g.P.Carry.arguments keeps p n (omega arith) (omega arith) m h.ghosts h.rule c.args.desk.seat.id v at settled.6;
       complete = closing g.P.Carry.entries g.P.Carry.arguments keeps p n (omega arith) (omega arith) m h.ghosts h.rule c.args.desk.seat.id v at settled.6;
       homes = λ i low.
           let home = at_home g.P.Carry.entries g.P.Carry.arguments keeps p n (omega arith) m h.ghosts h.rule c.args.desk.seat.id v at settled.6 c.requires.alone.0 c.requires.alone.1 settled.3 settled.7 settled.4 settled.5 i in
