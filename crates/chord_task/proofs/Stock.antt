@@ -11,22 +11,24 @@ use Rattle.chord_task.specs.declared.body.Body.{Body}
 use Rattle.chord_task.specs.declared.task.Task.{Task}
 use Rattle.chord_base.specs.declared.event.Limits.{Limits}
 use Rattle.chord_vm.specs.declared.frames.Frames.{Frames}
-use Rattle.chord_task.specs.Standing.{IsRoomierTop, IsStocked, KeepsStock, KeepsFrames, SettlesFrames, WasStocked}
+use Rattle.chord_task.specs.Standing.{IsRoomierTop, IsStocked, KeepsList, KeepsStock, KeepsFrames, SettlesFrames, WasStocked}
 use Rattle.chord_task.proofs.Turning.{with_body}
 
 -- an entry that is no end leaves the frames as they were
-pub kept_on : (w : What) (before after : Task) → is_end w ≡ false → after.spare ≡ before.spare → after.ended ≡ before.ended → KeepsFrames w before after
-kept_on w before after goes_on spare ended =
+pub kept_on : (w : What) (before after : Task) → is_end w ≡ false → after.values ≡ before.values → after.spare ≡ before.spare → after.ended ≡ before.ended → KeepsFrames w before after
+kept_on w before after goes_on values spare ended =
     record {
+      values = values;
       spare = spare;
       ends = λ at_end b top. let z : true ≡ false = sym at_end ∙ goes_on in cc;
       goes = λ _. ended;
     }
 
 -- an end keeps the frames of its body
-pub keeps_ended : (w : What) (before after : Task) → is_end w ≡ true → after.spare ≡ before.spare → ((b : Body) → before.top ≡ Some b → after.ended ≡ Some b.frames) → KeepsFrames w before after
-keeps_ended w before after at_end spare ended =
+pub keeps_ended : (w : What) (before after : Task) → is_end w ≡ true → after.values ≡ before.values → after.spare ≡ before.spare → ((b : Body) → before.top ≡ Some b → after.ended ≡ Some b.frames) → KeepsFrames w before after
+keeps_ended w before after at_end values spare ended =
     record {
+      values = values;
       spare = spare;
       ends = λ _ b top. ended b top;
       goes = λ goes_on. let z : true ≡ false = sym at_end ∙ goes_on in cc;
@@ -40,28 +42,30 @@ end_of o a b put e =
     ap (λ (x : Ask). is_end (what_of_ask x)) same
 
 -- an ask that ends no body was settled
-pub settles_on : (code : Parts) (t s t' : Task) (o : Option Ask) (a b : Ask) → o ≡ Some b → is_end (what_of_ask b) ≡ false → o ≡ Some a → IsRoomierTop t.top s.top → IsStocked code t.limits t.spare t.ended s.spare s.ended → t'.spare ≡ s.spare → t'.ended ≡ s.ended → SettlesFrames code t (what_of_ask a) t'
-settles_on code t s t' o a b put goes_on e roomier stocked spare ended = record { between = s; roomier = roomier; stocked = stocked; kept = kept_on (what_of_ask a) s t' (end_of o a b put e ∙ goes_on) spare ended }
+pub settles_on : (code : Parts) (t s t' : Task) (o : Option Ask) (a b : Ask) → o ≡ Some b → is_end (what_of_ask b) ≡ false → o ≡ Some a → IsRoomierTop t.top s.top → IsStocked code t.limits t.spare t.ended s.spare s.ended → KeepsList t.values s.values → t'.values ≡ s.values → t'.spare ≡ s.spare → t'.ended ≡ s.ended → SettlesFrames code t (what_of_ask a) t'
+settles_on code t s t' o a b put goes_on e roomier stocked list values spare ended = record { between = s; roomier = roomier; stocked = stocked; list = list; kept = kept_on (what_of_ask a) s t' (end_of o a b put e ∙ goes_on) values spare ended }
 
 -- an end was settled
-pub settles_end : (code : Parts) (t s t' : Task) (o : Option Ask) (a : Ask) (x : End) → o ≡ Some (ask.End x) → o ≡ Some a → IsRoomierTop t.top s.top → IsStocked code t.limits t.spare t.ended s.spare s.ended → t'.spare ≡ s.spare → ((b : Body) → s.top ≡ Some b → t'.ended ≡ Some b.frames) → SettlesFrames code t (what_of_ask a) t'
-settles_end code t s t' o a x put e roomier stocked spare ended = record { between = s; roomier = roomier; stocked = stocked; kept = keeps_ended (what_of_ask a) s t' (end_of o a (ask.End x) put e) spare ended }
+pub settles_end : (code : Parts) (t s t' : Task) (o : Option Ask) (a : Ask) (x : End) → o ≡ Some (ask.End x) → o ≡ Some a → IsRoomierTop t.top s.top → IsStocked code t.limits t.spare t.ended s.spare s.ended → KeepsList t.values s.values → t'.values ≡ s.values → t'.spare ≡ s.spare → ((b : Body) → s.top ≡ Some b → t'.ended ≡ Some b.frames) → SettlesFrames code t (what_of_ask a) t'
+settles_end code t s t' o a x put e roomier stocked list values spare ended = record { between = s; roomier = roomier; stocked = stocked; list = list; kept = keeps_ended (what_of_ask a) s t' (end_of o a (ask.End x) put e) values spare ended }
 
 -- the ask of another body on top was settled
 pub settled_stock : (code : Parts) (t t' : Task) (b : Body) (w : What) → SettlesFrames code (with_body t b) w t' → WasStocked code t t'
 settled_stock code t t' b w x =
     record {
+      list = λ some. x.kept.values ∙ x.list some;
       ended = x.between.ended;
       stocked = subst (λ (z : Option (Box Frames Global)). IsStocked code t.limits t.spare t.ended z x.between.ended) (sym x.kept.spare) x.stocked;
     }
 
--- frames were seen to in a task whose frames were as they are, and then kept
-pub kept_stock : (code : Parts) (t r s t' : Task) → r.limits ≡ t.limits → KeepsStock t r → IsStocked code r.limits r.spare r.ended s.spare s.ended → t'.spare ≡ s.spare → WasStocked code t t'
-kept_stock code t r s t' limited same x spare =
+-- frames and a list were seen to in a task whose frames and list were as they are, and then kept
+pub kept_stock : (code : Parts) (t r s t' : Task) → r.limits ≡ t.limits → KeepsStock t r → IsStocked code r.limits r.spare r.ended s.spare s.ended → KeepsList r.values s.values → t'.values ≡ s.values → t'.spare ≡ s.spare → WasStocked code t t'
+kept_stock code t r s t' limited same x list values spare =
     let under : IsStocked code t.limits r.spare r.ended s.spare s.ended = subst (λ (l : Limits). IsStocked code l r.spare r.ended s.spare s.ended) limited x in
     let from : IsStocked code t.limits t.spare r.ended s.spare s.ended = subst (λ (z : Option (Box Frames Global)). IsStocked code t.limits z r.ended s.spare s.ended) same.0 under in
     let from' : IsStocked code t.limits t.spare t.ended s.spare s.ended = subst (λ (z : Option (Box Frames Global)). IsStocked code t.limits t.spare z s.spare s.ended) same.1 from in
     record {
+      list = λ some. values ∙ list (λ none. some (sym same.2 ∙ none)) ∙ same.2;
       ended = s.ended;
       stocked = subst (λ (z : Option (Box Frames Global)). IsStocked code t.limits t.spare t.ended z s.ended) (sym spare) from';
     }

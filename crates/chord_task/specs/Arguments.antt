@@ -2,6 +2,7 @@
 use Rattle.std.specs.Prelude.{◌≡◌, ◌≤◌, ◌⊎◌, List, [], ◌∷◌, Option, Some, None, Vec, vec_capacity}
 use Rattle.std.specs.Global.{Global}
 use Rattle.chord_base.specs.declared.value.Value.{Value}
+use Rattle.chord_base.specs.declared.value.Value.TheVariants as a_value
 use Rattle.chord_vm.specs.Frames.{laid}
 use Rattle.chord_task.specs.declared.args.Args.{Args}
 
@@ -44,3 +45,17 @@ abbrev pub HasOneAtMost : List (List Value) → Type 0
 HasOneAtMost [] = Unit {0}
 HasOneAtMost ([] ∷ rest) = HasOneAtMost rest
 HasOneAtMost ((x ∷ xs) ∷ rest) = laid rest ≡ []
+
+-- a number or an object
+abbrev pub IsWord : Value → Type 0
+IsWord a_value.Unit = ⊥
+IsWord (a_value.Int i) = Unit {0}
+IsWord (a_value.Flag b) = ⊥
+IsWord (a_value.Text bytes) = ⊥
+IsWord (a_value.Ref o) = Unit {0}
+
+-- these arguments take no memory on their way: there is none, or a number or an object alone
+abbrev pub AreInPlace : List Value → Type 0
+AreInPlace [] = Unit {0}
+AreInPlace (v ∷ []) = IsWord v
+AreInPlace (v ∷ w ∷ vs) = ⊥

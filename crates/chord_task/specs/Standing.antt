@@ -1,5 +1,5 @@
 -- What the bodies of a task stand for: where the code of each stands after the answers that its story has.
-use Rattle.std.specs.Prelude.{◌≡◌, ◌≢◌, ◌+◌, ◌-◌, ◌<◌, ◌++◌, vec_len, vec_capacity, Vec, ℕ, List, [], ◌∷◌, Bool, true, false, ◌==◌, Option, Some, None, reverse, IsSome, IsSomeAnd, Box}
+use Rattle.std.specs.Prelude.{◌≡◌, ◌≢◌, ◌+◌, ◌-◌, ◌<◌, ◌++◌, ◌⊎◌, vec_len, vec_capacity, Vec, ℕ, List, [], ◌∷◌, Bool, true, false, ◌==◌, Option, Some, None, reverse, IsSome, IsSomeAnd, Box}
 use Rattle.std.specs.Global.{Global}
 use Rattle.chord_base.specs.declared.value.Object.{Object}
 use Rattle.chord_base.specs.declared.value.Value.{Value}
@@ -159,12 +159,22 @@ pub record IsStocked (code : Parts) (limits : Limits) (spare ended spare' ended'
   pub stays : (spare ≡ None → ⊥) → (spare' ≡ spare) × (ended' ≡ ended)
   pub again : spare ≡ None → IsSomeAnd ended (λ f. IsSpareOf code limits f.value) → (spare' ≡ ended) × (ended' ≡ None)
 
--- the frames in stock, and those of a body that has ended, are as they were
-abbrev pub KeepsStock : Task → Task → Type 0
-KeepsStock before after = (after.spare ≡ before.spare) × (after.ended ≡ before.ended)
+-- no frames were lost: those in stock and those of a body that has ended stay, or the latter came to a stock that had none
+pub record LosesNoFrames (spare ended spare' ended' : Option (Box Frames Global)) : Type 0 where
+  pub stays : (spare ≡ None → ⊥) → (spare' ≡ spare) × (ended' ≡ ended)
+  pub comes : spare ≡ None → (ended' ≡ ended) ⊎ ((spare' ≡ ended) × (ended' ≡ None))
 
--- after the entry of this ask the frames in stock are as they were, and those of the body on top are kept for another body, if it ended
+-- a list of values that is there stays
+abbrev pub KeepsList : Option (Vec Value Global) → Option (Vec Value Global) → Type 0
+KeepsList before after = (before ≡ None → ⊥) → after ≡ before
+
+-- the frames in stock, those of a body that has ended, and the list of values are as they were
+abbrev pub KeepsStock : Task → Task → Type 0
+KeepsStock before after = (after.spare ≡ before.spare) × (after.ended ≡ before.ended) × (after.values ≡ before.values)
+
+-- after the entry of this ask the frames in stock and the list of values are as they were, and the frames of the body on top are kept for another body, if it ended
 pub record KeepsFrames (w : What) (before after : Task) : Type 0 where
+  pub values : after.values ≡ before.values
   pub spare : after.spare ≡ before.spare
   pub ends : is_end w ≡ true → (b : Body) → before.top ≡ Some b → after.ended ≡ Some b.frames
   pub goes : is_end w ≡ false → after.ended ≡ before.ended
@@ -373,6 +383,20 @@ pub record HasMadeRoom (code : Parts) (before after : Task) : Type 0 where
   pub limits : after.limits ≡ before.limits
   pub ready : IsReserved code after
   pub stocked : IsStocked code before.limits before.spare before.ended after.spare after.ended
+  pub list : KeepsList before.values after.values
+
+-- nothing of the task was lost: it may have more room, and nothing else of it has changed
+pub record LosesNothing (code : Parts) (before after : Task) : Type 0 where
+  pub past : after.past ≡ before.past
+  pub below : after.below.items ≡ before.below.items
+  pub room : vec_len before.below < vec_capacity before.below → after.below ≡ before.below
+  pub top : IsRoomierTop before.top after.top
+  pub spare : HasRoomFor code before.limits after.spare
+  pub frames : LosesNoFrames before.spare before.ended after.spare after.ended
+  pub values : MayBeList after.values
+  pub list : KeepsList before.values after.values
+  pub limits : after.limits ≡ before.limits
+  pub enclosed : after.enclosed ≡ before.enclosed
 
 -- `Main` begins
 abbrev pub MainBegins : Parts → Limits → Type 0
@@ -383,9 +407,11 @@ pub record SettlesFrames (code : Parts) (before : Task) (w : What) (after : Task
   pub between : Task
   pub roomier : IsRoomierTop before.top between.top
   pub stocked : IsStocked code before.limits before.spare before.ended between.spare between.ended
+  pub list : KeepsList before.values between.values
   pub kept : KeepsFrames w between after
 
--- frames for the next body were seen to before the entry that was added
+-- frames for the next body were seen to before the entry that was added, and a list of values that was there stays
 pub record WasStocked (code : Parts) (before after : Task) : Type 0 where
+  pub list : KeepsList before.values after.values
   pub ended : Option (Box Frames Global)
   pub stocked : IsStocked code before.limits before.spare before.ended after.spare ended

@@ -1,7 +1,8 @@
 //! The arguments of a message on its way: in place, or in memory of their own.
 #![tactic(auto)]
 
-ghost use Rattle.std.specs.Prelude.{◌≡◌, ◌==◌, [], IfOk, length};
+ghost use Rattle.std.specs.Prelude.{◌≡◌, ◌==◌, [], IfOk, IsOk, length};
+ghost use Rattle.chord_task.specs.Arguments.{AreInPlace};
 
 use crate::apart::Apart;
 use crate::args::Args;
@@ -71,6 +72,7 @@ impl Enclosed {
     pub fn twice(alloc: Global, values: &Values) -> Result<Enclosed, AllocError>
         ensures first { IfOk result (λ e. e.first ≡ values.now) }
         ensures second { IfOk result (λ e. e.second ≡ values.now) }
+        ensures in_place { AreInPlace values.now → IsOk result }
     {
         let contents = match values.items() {
             [] => Contents::Nothing,

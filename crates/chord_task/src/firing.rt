@@ -42,6 +42,7 @@ impl Task {
         ensures top { (view_of self.new).top ≡ Some number }
         ensures listed { AddsOne self.old.past self.new.past list.old.items list.new.items }
         ensures ended { self.new.ended ≡ self.old.ended }
+        ensures values { self.new.values ≡ self.old.values }
     {
         let depth = depth_over(self.limits.depth, &self.top);
         match self.spare.take() {
@@ -87,6 +88,7 @@ impl Task {
         ensures top { (view_of self.new).top ≡ Some number }
         ensures listed { AddsOne self.old.past self.new.past list.old.items list.new.items }
         ensures ended { self.new.ended ≡ self.old.ended }
+        ensures values { self.new.values ≡ self.old.values }
     {
         let arguments = arguments.into_args();
         self.resume_on(code, number, chord, object, members, arguments, list);
@@ -114,6 +116,7 @@ impl Task {
         ensures top { (view_of self.new).top ≡ Some number }
         ensures listed { AddsOne self.old.past self.new.past list.old.items list.new.items }
         ensures ended { self.new.ended ≡ self.old.ended }
+        ensures values { self.new.values ≡ self.old.values }
     {
         match arguments.contents {
             Contents::Nothing => {

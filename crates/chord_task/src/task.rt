@@ -1,20 +1,20 @@
 //! A stack of bodies, each waiting for the one above it, and the entries that they made.
 #![tactic(auto)]
 
-ghost use Rattle.std.specs.Prelude.{◌≡◌, ◌≢◌, ◌+◌, ◌-◌, ◌<◌, ◌≤◌, [], ◌∷◌, ◌++◌, true, false, IfOk, OnOk, OnErr, IsOk, IsSomeAnd, IsTrue, ◌↔◌, Some, None, length, slice_get, is_none, vec_len, vec_capacity, Box};
+ghost use Rattle.std.specs.Prelude.{◌≡◌, ◌≢◌, ◌+◌, ◌-◌, ◌<◌, ◌≤◌, [], ◌∷◌, ◌++◌, true, false, All, IfOk, OnOk, OnErr, IsOk, IsSomeAnd, IsTrue, ◌↔◌, Some, None, length, slice_get, is_none, vec_len, vec_capacity, Box};
 ghost use Rattle.chord_base.specs.declared.event.Limits.{Limits as TheLimits};
 ghost use Rattle.chord_base.specs.declared.event.What.{What as AWhat};
 ghost use Rattle.chord_base.specs.Printed.{is_end};
 ghost use Rattle.chord_code.specs.declared.parts.Parts.{Parts};
 ghost use Rattle.chord_code.specs.Meaning.{code_program, chord_lines};
 ghost use Rattle.chord_vm.specs.declared.frames.Frames.{Frames as TheFrames};
-ghost use Rattle.chord_vm.specs.Frames.{laid, what_of_ask};
+ghost use Rattle.chord_vm.specs.Frames.{IsShort, laid, what_of_ask};
 ghost use Rattle.chord_task.specs.declared.body.Body.{Body as ABody};
 ghost use Rattle.chord_task.specs.Arguments.{for_entry, AreTwice, MayBeList, IsList, HasOneAtMost};
 ghost use Rattle.chord_task.specs.Past.{AddsOne};
 ghost use Rattle.chord_task.specs.Turning.{RunsOn};
 ghost use Rattle.chord_task.specs.Stacks.{task_noted, task_begun, IsNext};
-ghost use Rattle.chord_task.specs.Standing.{view_of, IsTaskOf, HasGiven, IsReserved, IsResumable, MayNote, MayResume, is_ready_of, waits_of, room_of, callers_of, WaitsIfAny, LastIsReady, HasReturned, given_by, IsRoomierTop, HasRoomFor, IsSpareOf, IsStocked, KeepsStock, KeepsFrames, IsReadyFor, MainBegins, CanNote};
+ghost use Rattle.chord_task.specs.Standing.{view_of, IsTaskOf, HasGiven, IsReserved, IsResumable, MayNote, MayResume, is_ready_of, waits_of, room_of, callers_of, WaitsIfAny, LastIsReady, HasReturned, given_by, IsRoomierTop, HasRoomFor, IsSpareOf, IsStocked, LosesNoFrames, LosesNothing, KeepsList, KeepsStock, KeepsFrames, IsReadyFor, MainBegins, CanNote};
 
 use crate::args::{Args, part_all};
 use crate::body::{Body, Caller, Next, call_back, come_to_ask, given, note_ask, put_after};
@@ -133,6 +133,7 @@ fn restock(
     ensures kept { HasRoomFor code.now limits.now spare.new }
     ensures some { OnOk result ((f : Box TheFrames Global) × (spare.new ≡ Some f) × IsSpareOf code.now limits.now f.value) }
     ensures served { IsSomeAnd ended.old (λ f. IsSpareOf code.now limits.now f.value) → (spare.new ≡ ended.old) × (ended.new ≡ None) × IsOk result }
+    ensures frames { LosesNoFrames spare.old ended.old spare.new ended.new }
 {
     if may_serve(code, limits, ended) {
         mem::swap(spare, ended);
@@ -154,6 +155,7 @@ fn reserve_spare(
     ensures some { OnOk result ((f : Box TheFrames Global) × (spare.new ≡ Some f) × IsSpareOf code.now limits.now f.value) }
     ensures served { spare.old ≡ None → IsSomeAnd ended.old (λ f. IsSpareOf code.now limits.now f.value) → (spare.new ≡ ended.old) × (ended.new ≡ None) × IsOk result }
     ensures stocked { IsStocked code.now limits.now spare.old ended.old spare.new ended.new }
+    ensures frames { LosesNoFrames spare.old ended.old spare.new ended.new }
 {
     match spare {
         Some(_) => Ok(()),
@@ -166,6 +168,7 @@ fn reserve_spare(
 fn reserve_one<T>(list: &mut Vec<T>) -> Result<(), AllocError>
     ensures items { list.new.items ≡ list.old.items }
     ensures room { OnOk result (vec_len list.new < vec_capacity list.new) }
+    ensures stays { vec_len list.old < vec_capacity list.old → list.new ≡ list.old }
 {
     if list.len() < list.capacity() {
         return Ok(());
@@ -180,6 +183,7 @@ fn reserve_values(alloc: Global, values: &mut Option<Vec<Value>>) -> Result<(), 
     requires { MayBeList values.old }
     ensures kept { MayBeList values.new }
     ensures some { OnOk result (IsList values.new) }
+    ensures stays { KeepsList values.old values.new }
 {
     if values.is_some() {
         return Ok(());
@@ -431,6 +435,8 @@ impl Task {
         ensures listed { list.new.items ≡ list.old.items }
         ensures place { OnOk result (vec_len list.new < vec_capacity list.new) }
         ensures stocked { OnOk result (IsStocked code.now self.old.limits self.old.spare self.old.ended self.new.spare self.new.ended) }
+        ensures kept { LosesNothing code.now self.old self.new }
+        ensures entries { vec_len list.old < vec_capacity list.old → list.new ≡ list.old }
     {
         self.take_room(alloc, code, list)
     }
@@ -455,6 +461,11 @@ impl Task {
         ensures listed { list.new.items ≡ list.old.items }
         ensures place { OnOk result (vec_len list.new < vec_capacity list.new) }
         ensures stocked { OnOk result (IsStocked code.now self.old.limits self.old.spare self.old.ended self.new.spare self.new.ended) }
+        ensures room { vec_len self.old.below < vec_capacity self.old.below → self.new.below ≡ self.old.below }
+        ensures frames { LosesNoFrames self.old.spare self.old.ended self.new.spare self.new.ended }
+        ensures list { KeepsList self.old.values self.new.values }
+        ensures enclosed { self.new.enclosed ≡ self.old.enclosed }
+        ensures entries { vec_len list.old < vec_capacity list.old → list.new ≡ list.old }
     {
         reserve_one(list)?;
         reserve_one(&mut self.below)?;
@@ -554,7 +565,8 @@ impl Task {
         }
     }
 
-    /// Puts the body of a firing on top, with copies of these values in its slots; members and values go into its entry. Takes memory for texts alone.
+    /// Puts the body of a firing on top, with copies of these values in its slots; members and values go into its entry. Takes memory for texts of more than
+    /// 8 bytes alone.
     /// Where none is found, the task can only be dropped.
     #[inline(always)]
     pub fn resume_with(
@@ -576,6 +588,8 @@ impl Task {
         ensures top { IfOk result (λ _. (view_of self.new).top ≡ Some number) }
         ensures listed { OnOk result (AddsOne self.old.past self.new.past list.old.items list.new.items) }
         ensures ended { self.new.ended ≡ self.old.ended }
+        ensures values { self.new.values ≡ self.old.values }
+        ensures short { All IsShort values.old → IsOk result }
     {
         let depth = depth_over(self.limits.depth, &self.top);
         let block = line_of(code, object.class, chord).block;

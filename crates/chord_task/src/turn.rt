@@ -7,7 +7,7 @@ ghost use Rattle.chord_code.specs.Meaning.{code_program};
 ghost use Rattle.chord_vm.specs.Frames.{what_of_ask};
 ghost use Rattle.chord_task.specs.declared.body.Body.{Body as ABody};
 ghost use Rattle.chord_task.specs.declared.task.Task.{Task as ATask};
-ghost use Rattle.chord_task.specs.Standing.{view_of, IsTaskOf, is_ready_of, given_by, LastIsReady, HasReturned, HasRoomFor, HasMadeRoom, WasStocked, SettlesFrames};
+ghost use Rattle.chord_task.specs.Standing.{view_of, IsTaskOf, is_ready_of, given_by, LastIsReady, HasReturned, HasRoomFor, HasMadeRoom, LosesNothing, WasStocked, SettlesFrames};
 ghost use Rattle.chord_task.specs.Arguments.{MayBeList};
 ghost use Rattle.chord_task.specs.Past.{AddsOne};
 ghost use Rattle.chord_task.specs.Turning.{sent_to, sent_of, MayTurn, HasTurned, RunsOn, HasSettled, AwaitsNumber, IsSecondOf, AreBare, IsBareEnd, OwnsNothing};
@@ -339,6 +339,8 @@ impl Task {
         ensures place { OnOk result (vec_len list.new < vec_capacity list.new) }
         ensures second { IfOk result (λ second. IsSecondOf second asked.now) }
         ensures listed { list.new.items ≡ list.old.items }
+        ensures kept { LosesNothing code.now self.old self.new }
+        ensures entries { vec_len list.old < vec_capacity list.old → list.new ≡ list.old }
     {
         self.take_room(alloc, code, list)?;
         second_end(alloc, asked)

@@ -1,5 +1,5 @@
 -- What the frames of a body stand for.
-use Rattle.std.specs.Prelude.{◌≡◌, ◌<◌, ◌≤◌, vec_len, vec_capacity, ℕ, suc, List, [], ◌∷◌, ◌++◌, Bool, true, false, Option, Some, None, map, reverse, slice_get}
+use Rattle.std.specs.Prelude.{◌≡◌, ◌<◌, ◌≤◌, vec_len, vec_capacity, length, ℕ, suc, List, [], ◌∷◌, ◌++◌, Bool, true, false, Option, Some, None, map, reverse, slice_get}
 use Rattle.chord_vm.specs.declared.frames.Frame as declared_frame
 use Rattle.chord_vm.specs.declared.frames.Frames.{Frames}
 use Rattle.chord_vm.specs.declared.ask.Ask.{Ask}
@@ -7,6 +7,7 @@ use Rattle.chord_vm.specs.declared.ask.Ask.TheVariants as ask
 use Rattle.chord_vm.specs.declared.step.After.{After}
 use Rattle.chord_vm.specs.declared.step.After.TheVariants as steps
 use Rattle.chord_base.specs.declared.value.Value.{Value}
+use Rattle.chord_base.specs.declared.value.Value.TheVariants as a_value
 use Rattle.chord_base.specs.declared.operation.Operation.{Operation}
 use Rattle.chord_base.specs.declared.operation.Operation.TheVariants as ops
 use Rattle.chord_base.specs.declared.event.What.{What}
@@ -101,6 +102,14 @@ Advanced code m (ask.Print t) f = ComesTo code m (Printed t) (waiting_of f)
 abbrev pub laid : List (List Value) → List Value
 laid [] = []
 laid (xs ∷ rest) = xs ++ laid rest
+
+-- a copy of the value takes no memory: it is no text, or one of at most eight bytes
+abbrev pub IsShort : Value → Type 0
+IsShort a_value.Unit = Unit {0}
+IsShort (a_value.Int i) = Unit {0}
+IsShort (a_value.Flag b) = Unit {0}
+IsShort (a_value.Text bytes) = length bytes ≤ 8
+IsShort (a_value.Ref o) = Unit {0}
 
 -- the slots have room for this block's
 abbrev pub IsSpacious : Frames → Option Block → Type 0

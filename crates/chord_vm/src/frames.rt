@@ -1,10 +1,10 @@
 //! The frames of one body: its blocks at work, and how they begin and are answered without memory.
 #![tactic(auto)]
 
-ghost use Rattle.std.specs.Prelude.{◌≡◌, ◌≢◌, ◌+◌, ◌-◌, ◌<◌, ◌≤◌, true, false, List, [], ◌∷◌, ◌++◌, IfOk, OnOk, Some, None, length, slice_get, vec_len, vec_capacity, reverse, replicate};
+ghost use Rattle.std.specs.Prelude.{◌≡◌, ◌≢◌, ◌+◌, ◌-◌, ◌<◌, ◌≤◌, true, false, List, [], ◌∷◌, ◌++◌, IfOk, IsOk, OnOk, All, Some, None, length, slice_get, vec_len, vec_capacity, reverse, replicate};
 ghost use Rattle.chord_code.specs.Slots.{first_slots};
 ghost use Rattle.chord_code.specs.Machine.{body_in_block, with_answer, with_object, pops};
-ghost use Rattle.chord_vm.specs.Frames.{machine_of, IsSpacious, IsReady, HasRoom, IsMoved, IsRoomFor, laid};
+ghost use Rattle.chord_vm.specs.Frames.{machine_of, IsShort, IsSpacious, IsReady, HasRoom, IsMoved, IsRoomFor, laid};
 
 use chord_base::event::Limits;
 use chord_base::hand::Hand;
@@ -168,26 +168,35 @@ fn lay_copy(alloc: Global, slots: &mut Vec<Value>, value: &Value) -> Result<(), 
     ensures items { OnOk result (slots.new.items ≡ slots.old.items ++ value.now ∷ []) }
     ensures len { OnOk result (vec_len slots.new ≡ vec_len slots.old + 1) }
     ensures capacity { vec_capacity slots.new ≡ vec_capacity slots.old }
+    ensures short { IsShort value.now → IsOk result }
 {
     match value {
         Value::Int(number) => {
             let number = *number;
             slots.push_reserved(Value::Int(number));
+            Ok(())
         }
-        _ => lay_other(alloc, slots, value)?,
+        _ => lay_other(alloc, slots, value),
     }
-    Ok(())
 }
 
-/// Adds a copy of a value that may be a text.
+/// Adds a copy of a value that may be a text. One of up to 8 bytes takes no memory, nor does what is no text.
 #[inline(never)]
 fn lay_other(alloc: Global, slots: &mut Vec<Value>, value: &Value) -> Result<(), AllocError>
     requires { vec_len slots.old < vec_capacity slots.old }
     ensures items { OnOk result (slots.new.items ≡ slots.old.items ++ value.now ∷ []) }
     ensures len { OnOk result (vec_len slots.new ≡ vec_len slots.old + 1) }
     ensures capacity { vec_capacity slots.new ≡ vec_capacity slots.old }
+    ensures short { IsShort value.now → IsOk result }
 {
-    slots.push_reserved(value.copied(alloc)?);
+    let copy = match value {
+        Value::Unit => Value::Unit,
+        Value::Int(number) => Value::Int(*number),
+        Value::Flag(flag) => Value::Flag(*flag),
+        Value::Text(text) => Value::Text(text.copied(alloc)?),
+        Value::Ref(object) => Value::Ref(*object),
+    };
+    slots.push_reserved(copy);
     Ok(())
 }
 
@@ -209,6 +218,7 @@ pub fn lay_copies(alloc: Global, slots: &mut Vec<Value>, values: &[Value]) -> Re
     requires { vec_len slots.old + length values.now ≤ vec_capacity slots.old }
     ensures items { OnOk result (slots.new.items ≡ slots.old.items ++ values.now) }
     ensures capacity { vec_capacity slots.new ≡ vec_capacity slots.old }
+    ensures short { All IsShort values.now → IsOk result }
 {
     for value in values {
         lay_copy(alloc, slots, value)?;
@@ -228,6 +238,7 @@ fn fill_with(
     requires fits { first_slots n (this ∷ values.now) ≢ None }
     requires room { n ≤ vec_capacity slots.old }
     ensures filled { OnOk result (first_slots n (this ∷ values.now) ≡ Some slots.new.items) }
+    ensures short { All IsShort values.now → IsOk result }
 {
     clear(slots);
     slots.push_reserved(this);
@@ -242,6 +253,7 @@ fn fill_with(
 fn open(frames: &mut Frames, block: usize, depth: u32)
     ensures opened { machine_of frames.new ≡ record { top = record { block = block; place = 0; room = frames.old.limits.depth - depth; stack = []; slots = frames.old.top.slots.items }; below = []; turns = frames.old.limits.turns } }
     ensures awaits { frames.new.awaited ≡ Awaited.ForNothing }
+    ensures limits { frames.new.limits ≡ frames.old.limits }
 {
     frames.top.stack.truncate(0);
     frames.below.truncate(0);
@@ -265,6 +277,7 @@ pub fn begin(
     requires space { IsSpacious frames.old (slice_get code.now.blocks block) }
     ensures begun { body_in_block code.now block (frames.old.limits.depth - depth) (this ∷ laid arguments) frames.old.limits.turns ≡ Some (machine_of frames.new) }
     ensures awaits { frames.new.awaited ≡ Awaited.ForNothing }
+    ensures limits { frames.new.limits ≡ frames.old.limits }
 {
     let block = block as usize;
     let slots = code.parts().blocks.items()[block].slots as usize;
@@ -272,7 +285,7 @@ pub fn begin(
     open(frames, block, depth);
 }
 
-/// Begins a body in a block with copies of these arguments. Takes memory for texts alone. Where none is found, the frames are of no body.
+/// Begins a body in a block with copies of these arguments. Takes memory for texts of more than 8 bytes alone. Where none is found, the frames are of no body.
 #[inline(always)]
 pub fn begin_with(
     alloc: Global,
@@ -287,6 +300,8 @@ pub fn begin_with(
     requires space { IsSpacious frames.old (slice_get code.now.blocks block) }
     ensures begun { OnOk result (body_in_block code.now block (frames.old.limits.depth - depth) (this ∷ arguments.now) frames.old.limits.turns ≡ Some (machine_of frames.new)) }
     ensures awaits { OnOk result (frames.new.awaited ≡ Awaited.ForNothing) }
+    ensures limits { frames.new.limits ≡ frames.old.limits }
+    ensures short { All IsShort arguments.now → IsOk result }
 {
     let block = block as usize;
     let slots = code.parts().blocks.items()[block].slots as usize;
@@ -413,6 +428,7 @@ pub fn begin_moved(
     requires space { IsSpacious frames.old (slice_get code.now.blocks block) }
     ensures begun { body_in_block code.now block (frames.old.limits.depth - depth) (this ∷ arguments) frames.old.limits.turns ≡ Some (machine_of frames.new) }
     ensures awaits { frames.new.awaited ≡ Awaited.ForNothing }
+    ensures limits { frames.new.limits ≡ frames.old.limits }
 {
     let block = block as usize;
     let slots = code.parts().blocks.items()[block].slots as usize;

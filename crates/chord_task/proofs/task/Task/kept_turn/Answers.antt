@@ -32,4 +32,5 @@ returns-clause-listed c = adds_from (c.reserve.ensures.past ∙ c.in_ok-prepare.
 pub returns-clause-stocked : goal.returns-clause-stocked
 returns-clause-stocked c =
     let w = some_given _ c.in_ok-prepare.ensures.gave in
-    kept_stock c.args.code.now c.args.self.now c.prepare.new.self c.reserve.new.self c.note.new.self (c.in_ok-prepare.ensures.task.limited ∙ sym c.requires.task.limited) c.prepare.ensures.stock c.in_ok-reserve.ensures.stocked (c.note.ensures.frames w.0 (c.reserve.ensures.gave ∙ w.1)).spare
+    let kept = c.note.ensures.frames w.0 (c.reserve.ensures.gave ∙ w.1) in
+    kept_stock c.args.code.now c.args.self.now c.prepare.new.self c.reserve.new.self c.note.new.self (c.in_ok-prepare.ensures.task.limited ∙ sym c.requires.task.limited) c.prepare.ensures.stock c.in_ok-reserve.ensures.stocked c.reserve.ensures.kept.list kept.values kept.spare
