@@ -24,6 +24,8 @@ SECONDS = 60
 # A user of no processes, as whom root makes a process that may start no other.
 NOBODY = 54321
 MOST_SHOWN = 20
+# The examples that do not end with status 0.
+ENDS = {'waits': 4, 'refused': 1}
 TRIED = re.compile(rb'^case=(\d+) run=ended status=(\d+) .*output=(\w+)', re.MULTILINE)
 ESCAPE = re.compile(rb'\\(?:x([0-9A-Fa-f]{2})|\*(\d+)\{([^}]*)\}|(.))', re.DOTALL)
 NAMED = {b'n': b'\n', b'r': b'\r', b't': b'\t', b'\\': b'\\'}
@@ -56,10 +58,11 @@ def rows(path):
 
 
 def examples():
-    """The programs of examples/ that have their lines beside them, each as a case that ends with status 0."""
-    for path in sorted(glob.glob(f'{TOP}/examples/*.lines')):
-        with open(path, 'rb') as lines, open(path.removesuffix('.lines') + '.cs', 'rb') as source:
-            yield os.path.relpath(source.name, TOP), ['run', '--one'], 0, lines.read(), source.read()
+    """The programs of examples/ with their lines beside them, each as a case, which ends with status 0 where `ENDS` names no other one."""
+    for path in sorted(glob.glob(f'{TOP}/examples/*.cs')):
+        name = path.removesuffix('.cs')
+        with open(f'{name}.lines', 'rb') as lines, open(path, 'rb') as source:
+            yield os.path.relpath(path, TOP), ['run', '--one'], ENDS.get(os.path.basename(name), 0), lines.read(), source.read()
 
 
 def answer(program, words, source):
