@@ -1,5 +1,5 @@
 -- The chords of a class that a search went through.
-use Rattle.std.proofs.Common.{map, ◌≤◌, ◌≡◌, ⊎_elim, ℕ, ◌+◌, ◌<◌, true, false, List, length, slice_get, slice_index_or, sym, ap, ◌∙◌, subst, arith, Option, Some, None}
+use Rattle.std.proofs.Common.{map, ◌≤◌, ◌≡◌, inl, inr, ⊎_elim, ℕ, ◌+◌, ◌<◌, true, false, List, length, slice_get, slice_index_or, sym, ap, ◌∙◌, subst, arith, Option, Some, None}
 use mathlib.Core.Logic.{dite}
 use Rattle.std.proofs.Math.Decide.{dec_lt}
 use Rattle.std.proofs.lemmas.List.{length-map}
@@ -10,7 +10,7 @@ use Rattle.chord_code.specs.Meaning.{methods_of}
 use Rattle.chord_code.proofs.Headers.{methods_at}
 use Rattle.chord_bag.specs.declared.walk.Sought.{Sought}
 use Rattle.chord_match.specs.declared.search.Own.{Own}
-use Rattle.chord_match.specs.Searching.{KeepsKnown, IsStuck, AreStuck, firstly}
+use Rattle.chord_match.specs.Searching.{KeepsKnown, LearnsOf, IsStuck, AreStuck, KnowsBeside, firstly}
 use Rattle.chord_match.proofs.Knowing.{stuck_kept}
 use Rattle.chord_match.proofs.Lists.{all_below_more}
 
@@ -59,3 +59,13 @@ chord_line_at lines n line e l = methods_at lines n line l ∙ ap (λ (z : Chord
 -- all lines were gone through
 pub all_lines : (own : Own) (lines : List ChordLine) (n : ℕ) (a : List (Option Sought)) (busy : Option ℕ) → length lines ≤ n → n ≤ length lines → AreStuck own (map methods_of lines) n a busy → AreStuck own (map methods_of lines) (length (map methods_of lines)) a busy
 all_lines own lines n a busy all most s = subst (λ (z : ℕ). AreStuck own (map methods_of lines) z a busy) (let e = length-map lines methods_of in omega (arith, e, all, most)) s
+
+-- what is known of the bags of one chord more stands beside the own method
+pub beside_more : (own : Own) (jss : List (List ℕ)) (k : ℕ) (js : List ℕ) (a b : List (Option Sought)) → slice_get jss k ≡ Some js → has own.method js ≡ true → KnowsBeside own jss a → LearnsOf own js a b → KnowsBeside own jss b
+beside_more own jss k js a b here on s t q = elim (t q) [
+  | inl e ↦ elim (s q) [
+    | inl z ↦ inl (e ∙ z)
+    | inr y ↦ inr y
+  ]
+  | inr y ↦ inr (k, js, here, on, y.0, y.1)
+]

@@ -1,7 +1,9 @@
 -- Members are claimed one after another, and given back.
-use Rattle.std.proofs.Common.{zero, suc, ◌≡◌, ◌≢◌, inl, inr, ⊎_elim, ℕ, ◌+◌, ◌-◌, ◌<◌, true, false, ◌==◌, ne_eqb, List, [], ◌∷◌, ◌++◌, length, append_assoc, slice_get, slice_index_or, refl, sym, ap, ◌∙◌, subst, arith, Option, Some, None}
+use Rattle.std.proofs.Common.{zero, suc, ◌≡◌, ◌≢◌, inl, inr, ⊎_elim, ℕ, ◌+◌, ◌-◌, ◌<◌, true, false, ◌==◌, ne_eqb, List, [], ◌∷◌, ◌++◌, length, reverse, take, append_assoc, slice_get, slice_index_or, refl, sym, ap, ◌∙◌, subst, arith, Option, Some, None}
 use Rattle.std.specs.Prelude.{IfSome}
 use Rattle.std.proofs.lemmas.Bool.{eq-eqb}
+use Rattle.std.proofs.lemmas.List.{take_all}
+use Rattle.std.proofs.lemmas.Option.{slice_get-get_or}
 use Rattle.chord_base.specs.Meaning.{Program}
 use Rattle.chord_base.specs.Story.{AllBelow}
 use Rattle.chord_base.specs.declared.event.What.TheVariants.{Fired}
@@ -25,10 +27,11 @@ use Rattle.chord_rule.specs.Ways.{KnowsBag}
 use Rattle.chord_match.specs.declared.claiming.Missed.{Missed}
 use Rattle.chord_match.specs.declared.claiming.Missed.TheVariants.{Lost, Spent}
 use Rattle.chord_match.specs.Seen.{MayBeClaimed, MayAllBeClaimed, AreSeen}
-use Rattle.chord_match.specs.Fires.{AreLastPending, IsLost, IsTurnedAway, IsMissedBy}
-use Rattle.chord_match.specs.Claiming.{ClaimAt, Taking, WasClaimed, WereClaimed, IsDrawn, missed_by, looked_by, IsWhy, IsMissed}
+use Rattle.chord_match.specs.Fires.{messages_and_cells, all_with, AreLastPending, IsLost, IsTurnedAway, IsMissedBy}
+use Rattle.chord_match.specs.Claiming.{ClaimAt, Taking, WasClaimed, WereClaimed, IsDrawn, TookInOrder, members_from, WentAndCame, missed_by, looked_by, IsWhy, IsMissed}
 use Rattle.chord_match.proofs.Growing.{last_seen_left}
 use Rattle.chord_match.proofs.Lists.{all_below_more, has_at, different_at}
+use Rattle.chord_match.proofs.InOrder.{newest_of, none_from, first_from, all_from, went_further}
 
 -- a next that is below n where there is one
 pub next_is_below : (n : ℕ) (next : Option ℕ) → ((x : ℕ) → next ≡ Some x → x < n) → IfSome next (λ x. x < n)
@@ -139,8 +142,15 @@ number_at (i ∷ ms) zero l = inl refl
 number_at (i ∷ ms) (suc q) l = inr (number_at ms q (omega (arith, l)))
 
 -- nothing was fired, since the journal is full
-pub missed_full : (n : ℕ) (v w : View) (ms : List ℕ) (xs : List (Option ℕ)) (at c : ℕ) → n < c → w ≡ saw_count (was_told v) c → IsMissed n v w ms xs at Spent
-missed_full n v w ms xs at c far is = subst (λ (z : View). IsMissed n v z ms xs at Spent) (sym is) record { frame = refl; looks = []; more = refl; why = (c, far, refl); remembered = refl; alone = λ a b l. tt }
+pub missed_full : (n : ℕ) (v w : View) (ms : List ℕ) (xs : List (Option ℕ)) (at c : ℕ) → at ≡ length ms → n < c → w ≡ saw_count (was_told v) c → IsMissed n v w ms xs at Spent
+missed_full n v w ms xs at c all far is = subst (λ (z : View). IsMissed n v z ms xs at Spent) (sym is) record {
+  frame = refl;
+  looks = [];
+  more = refl;
+  why = (c, far, refl, subst (λ (z : List ℕ). WentAndCame z [] []) (sym (ap (λ (k : ℕ). members_from k (length ms) ms) all ∙ none_from ms (length ms))) refl);
+  remembered = refl;
+  alone = λ a b l. tt;
+}
 
 -- the exchange read another cell
 pub missed_one : (n : ℕ) (v w : View) (ms : List ℕ) (xs : List (Option ℕ)) (at : ℕ) (c : Cell) (after : Option ℕ) → at < length ms → slice_index_or ms at 0 < n → w ≡ saw v (slice_index_or ms at 0) (record { cell = c; next = after }) → c ≢ a_cell.Pending
@@ -149,15 +159,25 @@ missed_one n v w ms xs at c after low small is ne alone = let i : ℕ = slice_in
   frame = refl;
   looks = record { number = i; word = record { cell = c; next = after } } ∷ [];
   more = refl;
-  why = record { place = at; from = omega arith; low = low; is = refl; below = small; read = (record { cell = c; next = after }, inl (refl, refl), ne) };
+  why = record {
+    place = at;
+    from = omega arith;
+    low = low;
+    is = refl;
+    below = small;
+    read = (record { cell = c; next = after }, inl (refl, refl), ne);
+    cell = c;
+    gone = ne;
+    in_order = subst (λ (z : List ℕ). WentAndCame z ((i, c) ∷ []) (record { number = i; word = record { cell = c; next = after } } ∷ [])) (sym (none_from ms at)) refl;
+  };
   remembered = refl;
   alone = alone;
 }
 
 -- the claim is given back
-pub missed_back : (n : ℕ) (v u w : View) (ms : List ℕ) (xs : List (Option ℕ)) (at : ℕ) (c : Claim) (a b : Word) (x : Missed) → c.number ≡ slice_index_or ms at 0 → (HasClaimOn (slice_index_or ms at 0) v.claims → ⊥) → ((q : ℕ) → at < q → q < length ms → slice_index_or ms at 0 ≢ slice_index_or ms q 0)
+pub missed_back : (n : ℕ) (v u w : View) (ms : List ℕ) (xs : List (Option ℕ)) (at : ℕ) (c : Claim) (a b : Word) (x : Missed) → at < length ms → a.cell ≡ a_cell.Claimed → b.cell ≡ a_cell.Pending → c.number ≡ slice_index_or ms at 0 → (HasClaimOn (slice_index_or ms at 0) v.claims → ⊥) → ((q : ℕ) → at < q → q < length ms → slice_index_or ms at 0 ≢ slice_index_or ms q 0)
     → IsMissed n (saw (claimed v c) (slice_index_or ms at 0) a) u ms xs (at + 1) x → w ≡ saw (unclaimed u (slice_index_or ms at 0)) (slice_index_or ms at 0) b → IsMissed n v w ms xs at x
-missed_back n v u w ms xs at c a b x number free apart m is = record {
+missed_back n v u w ms xs at c a b x low written back number free apart m is = record {
   frame = is ∙ ap (λ (z : View). saw (unclaimed z i) i b) m.frame ∙ by x ∙ ap (missed_by v x) (sym (ap (λ (z : View). z.looked) is));
   looks = all;
   more = ap (λ (z : View). z.looked.seen) is ∙ ap (λ (z : List Look). record { number = i; word = b } ∷ z) m.more ∙ joined;
@@ -192,6 +212,10 @@ missed_back n v u w ms xs at c a b x number free apart m is = record {
         ap (λ (z : View). z.looked) is ∙ ap (λ (l : Looked). record l { seen = record { number = i; word = b } ∷ l.seen }) e
         ∙ (λ k. record v.looked { seen = joined k; count = sym (ap (λ (z : View). z.looked.count) is) k })
 
+    -- this member was claimed before those behind it, and given back after them
+    further : (end : ℕ) → at < end → (rest : List (ℕ × Cell)) → WentAndCame (members_from (at + 1) end ms) rest m.looks → WentAndCame (members_from at end ms) rest all
+    further end more rest e = subst (λ (z : List ℕ). WentAndCame z rest all) (sym (first_from ms at end more low)) (went_further i a b m.looks (members_from (at + 1) end ms) rest written back e)
+
     -- the member that was gone stands behind this one, so it is another
     on : (x : Missed) → IsWhy n ms (at + 1) u.looked m.looks x → IsWhy n ms at w.looked all x
     on (Lost j) y = let behind = y.from in record {
@@ -200,9 +224,12 @@ missed_back n v u w ms xs at c a b x number free apart m is = record {
       low = y.low;
       is = y.is;
       below = y.below;
+      cell = y.cell;
+      gone = y.gone;
+      in_order = further y.place (omega (arith, behind)) ((j, y.cell) ∷ []) y.in_order;
       read = (y.read.0, inr ((λ e. apart y.place (omega (arith, behind)) y.low (sym e ∙ y.is)), last_seen_left j y.read.0 m.looks (record { number = i; word = a } ∷ []) y.read.1), y.read.2);
     }
-    on Spent y = (y.0, y.1, ap (λ (z : View). z.looked.count) is ∙ y.2)
+    on Spent y = (y.0, y.1, ap (λ (z : View). z.looked.count) is ∙ y.2, further (length ms) low [] y.3)
 
 -- all are claimed: the firing was drawn
 pub taken_all : (n : ℕ) (p : Program) (v w : View) (o : Object) (chord : ℕ) (ms : List ℕ) (xs : List (Option ℕ)) (at f : ℕ) (js : List ℕ) (vs : List value.Value) → Taking n p v o chord ms xs at → at ≡ length ms → slice_get (p.chords o.class) chord ≡ Some js → AreClaimed v.claims o js ms vs
@@ -238,6 +265,25 @@ pub drawn_from_first : (n : ℕ) (p : Program) (v w : View) (o : Object) (chord 
 drawn_from_first n p v w o chord ms xs f zero u e d = subst (λ (z : View). IsDrawn p z w o chord ms f) e d
 drawn_from_first n p v w o chord ms xs f (suc k) u t d = drawn_from_first n p v w o chord ms xs f k t.0 t.1 (taken_back p t.0 w o chord ms f (slice_index_or ms k 0) t.2.claim t.2.word (subst (λ (z : View). IsDrawn p z w o chord ms f) t.2.becomes d))
 
+-- by these looks, the newest first, the first so many members were claimed in order
+were_looked : (n : ℕ) (p : Program) (v : View) (o : Object) (chord : ℕ) (ms : List ℕ) (xs : List (Option ℕ)) (k : ℕ) (u : View) → WereClaimed n p v o chord ms xs k u
+    → (ls : List Look) × (u.looked ≡ record v.looked { seen = ls ++ v.looked.seen }) × (messages_and_cells ls ≡ all_with a_cell.Claimed (reverse (take k ms)))
+were_looked n p v o chord ms xs zero u e = ([], ap (λ (z : View). z.looked) e, refl)
+were_looked n p v o chord ms xs (suc k) u t =
+    let r = were_looked n p v o chord ms xs k t.0 t.1 in let i : ℕ = slice_index_or ms k 0 in let last : Look = record { number = i; word = t.2.word } in (
+      last ∷ r.0,
+      ap (λ (z : View). z.looked) t.2.becomes ∙ ap (λ (l : Looked). record l { seen = last ∷ l.seen }) r.1,
+      (λ q. (i, t.2.written q) ∷ r.2 q) ∙ ap (all_with a_cell.Claimed) (sym (newest_of ms k t.2.low)),
+    )
+
+-- all members were claimed in order, and the firing was drawn
+pub took_in_order : (n : ℕ) (p : Program) (v w : View) (o : Object) (chord : ℕ) (ms : List ℕ) (xs : List (Option ℕ)) (f k : ℕ) (u : View) → k ≡ length ms → WereClaimed n p v o chord ms xs k u → w.looked ≡ record u.looked { count = Some (f + 1) } → TookInOrder v w ms f
+took_in_order n p v w o chord ms xs f k u full t drawn = let r = were_looked n p v o chord ms xs k u t in record {
+  looks = r.0;
+  remembered = drawn ∙ ap (λ (l : Looked). record l { count = Some (f + 1) }) r.1;
+  in_order = r.2 ∙ ap (λ (z : List ℕ). all_with a_cell.Claimed (reverse z)) (ap (λ (q : ℕ). take q ms) full ∙ take_all (length ms) ms (omega arith));
+}
+
 -- the claim that was made last
 pub last_claimed : (n : ℕ) (p : Program) (v : View) (o : Object) (chord : ℕ) (ms : List ℕ) (xs : List (Option ℕ)) (q : ℕ) (u : View) → 0 < q → WereClaimed n p v o chord ms xs q u → (b : View) × WereClaimed n p v o chord ms xs (q - 1) b × WasClaimed n p b u o chord ms xs (q - 1)
 last_claimed n p v o chord ms xs zero u l t = absurd (omega (arith, l))
@@ -259,7 +305,7 @@ module _ (n : ℕ) (p : Program) (right : ChordsAreRight p) (o : Object) (small 
   -- it was given back
   pub missed_last : (new : View) → ((c : Claim) → HasThe c old.claims → c.number ≡ slice_index_or ms k 0 → new ≡ saw (unclaimed old (slice_index_or ms k 0)) (slice_index_or ms k 0) (record { cell = a_cell.Pending; next = c.next })) → IsMissed n b new ms xs k x
   missed_last new given =
-      missed_back n b old new ms xs k t.claim t.word (record { cell = a_cell.Pending; next = t.claim.next }) x t.new.numbered t.new.free (later_apart n p b o chord ms xs k t.taking t.low right small t.claim t.new) since (given t.claim has_last t.new.numbered)
+      missed_back n b old new ms xs k t.claim t.word (record { cell = a_cell.Pending; next = t.claim.next }) x t.low t.written refl t.new.numbered t.new.free (later_apart n p b o chord ms xs k t.taking t.low right small t.claim t.new) since (given t.claim has_last t.new.numbered)
 
 -- at first nothing is claimed
 pub taking_first : (n : ℕ) (p : Program) (v : View) (o : Object) (chord : ℕ) (ms : List ℕ) (xs : List (Option ℕ)) → AreSeen n p v o chord ms xs → v.claims ≡ [] → v.spent ≡ false → Taking n p v o chord ms xs 0
@@ -276,12 +322,26 @@ lost_all n v w ms xs i free m = record {
   more = m.more;
   read = m.why.read;
   remembered = m.remembered;
+  tried = record {
+    place = m.why.place;
+    here = slice_get-get_or ms m.why.place 0 m.why.low ∙ ap (λ (z : ℕ). Some z) (sym m.why.is);
+    cell = m.why.cell;
+    gone = m.why.gone;
+    in_order = subst (λ (z : List ℕ). WentAndCame z ((i, m.why.cell) ∷ []) m.looks) (all_from ms m.why.place) m.why.in_order;
+  };
   alone = m.alone;
 }
 
 -- the journal is full, and nothing is claimed
-refused_all : (n : ℕ) (v w : View) (ms : List ℕ) (xs : List (Option ℕ)) → v.claims ≡ [] → IsMissed n v w ms xs 0 Spent → IsTurnedAway n v w
-refused_all n v w ms xs free m = record { same = m.frame; claims = ap (λ (z : View). z.claims) m.frame ∙ free; counter = m.why; looks = m.looks; remembered = m.remembered }
+refused_all : (n : ℕ) (v w : View) (ms : List ℕ) (xs : List (Option ℕ)) → v.claims ≡ [] → IsMissed n v w ms xs 0 Spent → IsTurnedAway n v w ms
+refused_all n v w ms xs free m = record {
+  same = m.frame;
+  claims = ap (λ (z : View). z.claims) m.frame ∙ free;
+  counter = (m.why.0, m.why.1, m.why.2);
+  looks = m.looks;
+  remembered = m.remembered;
+  in_order = subst (λ (z : List ℕ). WentAndCame z [] m.looks) (all_from ms (length ms) ∙ take_all (length ms) ms (omega arith)) m.why.3;
+}
 
 -- why nothing was fired, once all claims were given back
 pub missed_all : (n : ℕ) (v w : View) (ms : List ℕ) (xs : List (Option ℕ)) (x : Missed) → v.claims ≡ [] → IsMissed n v w ms xs 0 x → IsMissedBy n v w ms xs x

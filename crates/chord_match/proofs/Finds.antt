@@ -1,5 +1,6 @@
 -- What a search for a chord answers, from what is known of the bags.
 use Rattle.std.proofs.Common.{◌||◌, ne_eqb, zero, suc, map, replicate, ◌≡◌, ◌≢◌, ◌⊎◌, inl, inr, ℕ, ◌<◌, Bool, true, false, ◌==◌, List, [], ◌∷◌, slice_get, slice_index_or, refl, sym, ap, ◌∙◌, subst, Option, Some, None, if◌then◌else◌}
+use mathlib.Core.Path.{Path}
 use Rattle.std.proofs.lemmas.Bool.{eqb-true, eq-eqb}
 use Rattle.std.proofs.lemmas.Option.{slice_get_within}
 use Rattle.chord_base.specs.Meaning.{Program}
@@ -12,6 +13,7 @@ use Rattle.chord_word.specs.declared.cells.Cell.TheVariants.{Empty, Pending, Cla
 use Rattle.chord_word.specs.declared.cells.Word.{Word}
 use Rattle.chord_rule.specs.declared.view.Duty.{Duty}
 use Rattle.chord_rule.specs.declared.view.View.{View}
+use Rattle.chord_rule.specs.declared.view.Way.{Way}
 use Rattle.chord_rule.specs.Bags.{IsArmed}
 use Rattle.chord_rule.specs.Duties.{HasDuty, MayRest, move_duty}
 use Rattle.chord_rule.specs.Kinds.{is_down, looked_cell}
@@ -19,7 +21,7 @@ use Rattle.chord_rule.specs.Looks.{HasLook}
 use Rattle.chord_rule.specs.Made.{key, bag_keys, IsChord}
 use Rattle.chord_rule.specs.Numbers.{HasNumber}
 use Rattle.chord_rule.specs.Tells.{IsLook}
-use Rattle.chord_rule.specs.Ways.{IsAloneDesk, IsSettledCell}
+use Rattle.chord_rule.specs.Ways.{HasWay, IsAloneDesk, IsSettledCell}
 use Rattle.chord_rule.proofs.KeySteps.{same_key}
 use Rattle.chord_bag.specs.declared.walk.Sought.{Sought}
 use Rattle.chord_bag.specs.declared.walk.Sought.TheVariants as a_sought
@@ -29,9 +31,9 @@ use Rattle.chord_bag.proofs.Walks.{cell_keeps_messages}
 use Rattle.chord_match.specs.declared.search.Own.{Own}
 use Rattle.chord_match.specs.declared.search.Verdict.{Verdict}
 use Rattle.chord_match.specs.declared.search.Verdict.TheVariants as a_verdict
-use Rattle.chord_match.specs.Seen.{AreMatched}
-use Rattle.chord_match.specs.Searching.{WasTold, WasToldIf, Searching, IsStuck, IsThrough}
-use Rattle.chord_match.specs.Findings.{IsLacking, IsHeldUp, IsMatch, IsLeftAnswer, IsHeldBy, read_so}
+use Rattle.chord_match.specs.Seen.{bags_of, AreMatched}
+use Rattle.chord_match.specs.Searching.{WasTold, WasToldIf, Searching, IsStuck, KnowsBeside, IsThrough}
+use Rattle.chord_match.specs.Findings.{AreWithinChords, IsLacking, IsHeldUp, IsMatch, IsLeftAnswer, IsHeldBy, read_so}
 use Rattle.chord_match.proofs.Growing.{duty_is_kept, key_cancels}
 
 -- the own message is the member for its own method
@@ -106,10 +108,14 @@ all_none zero q = refl
 all_none (suc n) zero = refl
 all_none (suc n) (suc q) = all_none n q
 
+-- so none is known that stands beside no own method
+pub beside_none : (own : Own) (jss : List (List ℕ)) → KnowsBeside own jss (replicate 16 None)
+beside_none own jss q = inl (all_none 16 q)
+
 -- m was read pending, and nothing is known of the bags
 pub stands_read : (n : ℕ) (v u : View) (o : Object) (own : Own) → IsLook n v u own.message (record { cell = Pending; next = own.next }) → own.message < n → (d : Duty) × HasDuty d v.duties × (d.message ≡ own.message) × (d.bag ≡ key o own.method) → Searching n u u o own (replicate 16 None)
 stands_read n v u o own look low d = record {
-  sought = record { grows = record { ways = []; looks = []; more_ways = refl; more_seen = refl; only = record { frame = refl; duties = refl } }; once = tt };
+  sought = record { grows = record { ways = []; looks = []; more_ways = refl; more_seen = refl; only = record { frame = refl; duties = refl } }; once = tt; along = refl };
   listed = λ k h. let z : false ≡ true = h in absurd (cc);
   read = (record { cell = Pending; next = own.next }, subst (λ (z : View). HasLook own.message (record { cell = Pending; next = own.next }) z.looked.seen) (sym look.looked) (inl (refl, refl)), tt, refl);
   below = low;
@@ -130,6 +136,12 @@ claimed_by_another p n v w m o method next Ready low is armed alone a b d = absu
 claimed_by_another p n v w m o method next Started low is armed alone a b d = absurd armed
 
 -- ## What the verdict says
+
+-- the bag of a way is among the bags of all
+way_has : (x : Way) (ws : List Way) → HasWay x ws → has x.bag (bags_of ws) ≡ true
+way_has x [] h = absurd h
+way_has x (w ∷ ws) (inl e) = rw (eq-eqb x.bag w.bag (ap (λ (z : Way). z.bag) e)) refl
+way_has x (w ∷ ws) (inr h) = has_more x.bag w.bag (bags_of ws) (way_has x ws h)
 
 module _ (n : ℕ) (p : Program) (v w : View) (o : Object) (own : Own) (ms : List ℕ) (xs : List (Option ℕ)) where
   -- what a verdict says to the caller
@@ -158,11 +170,19 @@ module _ (n : ℕ) (p : Program) (v w : View) (o : Object) (own : Own) (known : 
       let a = told_at n seen w o own known t.stands r.0 a_sought.Bare r.2.1 in
       (record { bag = key o r.0; place = None }, a.says e h, subst (λ (z : Object). HasNumber (key z r.0) ks) (sym same_one.0) (subst (λ (z : List ℕ). HasNumber (key c.0 r.0) z) (sym c.5) (key_has c.0 c.2 r.0 r.1)), (λ z. r.2.0 (key_cancels o r.0 own.method (z ∙ b))), refl))
 
+  -- no bag was sought but those of the chords with the own message
+  within : (t : Verdict) (g : WentThrough t) → AreWithinChords p o own.method g.stands.sought.grows.ways
+  within t g x h = let r = g.stands.listed x.bag (way_has x g.stands.sought.grows.ways h) in elim (g.beside r.0) [
+    | inl none ↦ absurd (let z : Path (Option Sought) None (Some r.1) = sym none ∙ r.3 in cc)
+    | inr y ↦ (y.0, y.1, (y.2, y.3), (r.0, y.4, y.5, r.2))
+  ]
+
   -- the first chord with all members is a match; where each has a bare bag, nothing is left to do; else the first message in another hand is told
   tells : ChordsAreRight p → o.number < 65536 → own.method < 16 → (t : Verdict) → WentThrough t → Tells n p v w o own ms xs t
   tells right low few (a_verdict.Match k) t = let r = t.verdict in let d = t.stands.duty in record {
     next = own.next;
     sought = t.stands.sought;
+    within = within (a_verdict.Match k) t;
     seen = record { methods = r.0; is_chord = r.1; ready = r.4; object = (d.0, own.method, d.1, few, d.3) };
     chord = (r.1, r.2);
     own = own_member seen w o own.message own.method own.next r.0 ms xs r.3 r.2;
@@ -172,6 +192,7 @@ module _ (n : ℕ) (p : Program) (v w : View) (o : Object) (own : Own) (known : 
     record {
       next = own.next;
       sought = t.stands.sought;
+      within = within (a_verdict.Without None) t;
       lacking = λ k js c. lacking n seen w o own known t.stands js (t.verdict k js (slice_get_within (p.chords o.class) k js c.0) c.0 c.1);
     },
     (d.0, d.1, d.2, λ e h q b. may_rest right low few t e h (b ∙ d.3)),
@@ -180,6 +201,7 @@ module _ (n : ℕ) (p : Program) (v w : View) (o : Object) (own : Own) (known : 
     one = inr record {
       next = own.next;
       sought = t.stands.sought;
+      within = within (a_verdict.Without (Some i)) t;
       each = λ k js c. let r = t.verdict.0 k js (slice_get_within (p.chords o.class) k js c.0) c.0 c.1 in either_way js r.0 r.1;
       one = let r = t.verdict.1 in (r.0, r.1, (r.3, r.4), one.0);
     };

@@ -1,5 +1,5 @@
 -- Members are consumed one after another.
-use Rattle.std.proofs.Common.{suc, ◌≡◌, ◌≢◌, inl, inr, ℕ, ◌<◌, ◌≤◌, Bool, true, false, not, ◌==◌, List, [], ◌∷◌, ◌++◌, map, length, slice_index_or, refl, sym, ap, ◌∙◌, subst, arith, Option, Some, None, if◌then◌else◌}
+use Rattle.std.proofs.Common.{suc, ◌≡◌, ◌≢◌, inl, inr, ℕ, ◌+◌, ◌<◌, ◌≤◌, Bool, true, false, not, ◌==◌, List, [], ◌∷◌, ◌++◌, append_assoc, map, length, slice_index_or, refl, sym, ap, ◌∙◌, subst, arith, Option, Some, None, if◌then◌else◌}
 use Rattle.std.proofs.lemmas.Bool.{eq-eqb}
 use Rattle.chord_base.specs.Meaning.{Program}
 use Rattle.chord_base.specs.Messages.{has}
@@ -9,8 +9,11 @@ use Rattle.chord_base.specs.declared.event.What.TheVariants.{Fired}
 use Rattle.chord_base.specs.declared.value.Object.{Object}
 use Rattle.chord_base.specs.declared.value.Value as value
 use Rattle.chord_base.proofs.Pending.{has_more}
+use Rattle.chord_word.specs.declared.cells.Cell.TheVariants as a_cell
 use Rattle.chord_word.specs.declared.cells.Word.{Word}
 use Rattle.chord_rule.specs.declared.view.Claim.{Claim}
+use Rattle.chord_rule.specs.declared.view.Look.{Look}
+use Rattle.chord_rule.specs.declared.view.Looked.{Looked}
 use Rattle.chord_rule.specs.declared.view.View.{View}
 use Rattle.chord_rule.specs.Claims.{HasThe, AreClaimed, fired_with}
 use Rattle.chord_rule.specs.Coming.{IsPlace, ComesWithMessage}
@@ -18,10 +21,11 @@ use Rattle.chord_rule.specs.Kinds.{saw, consumed, emptied, drop_claim, entry}
 use Rattle.chord_rule.specs.Numbers.{HasNumber}
 use Rattle.chord_rule.specs.Tells.{CameNext}
 use Rattle.chord_rule.proofs.Lists.{dropped_has, fired_has}
-use Rattle.chord_match.specs.Claiming.{IsDrawn}
+use Rattle.chord_match.specs.Claiming.{IsDrawn, TookInOrder}
 use Rattle.chord_match.specs.Consuming.{AreFired, AreApart, Consuming, handed_over, Handed}
 use Rattle.chord_match.specs.Fires.{all_together, drop_duties, AreComing, IsFired, firing_entry}
 use Rattle.chord_match.proofs.Lists.{first_has}
+use Rattle.chord_match.proofs.InOrder.{both_looks, reversed_with}
 use Rattle.chord_match.proofs.Unions.{all_are_place}
 
 -- dropped claims are no more than before
@@ -68,7 +72,7 @@ fired_kept i f cs o (j ∷ js) (k ∷ ms) us ne t = let x = t.0 in (
 module _ {P : Type 0} (entries : P → List Entry) (arguments : P → List value.Value) (keeps_to : P → Type 0) (p : Program) (n : ℕ) where
   -- no members, no parcels
   pub handed_none : (v : View) (o : Object) (f : ℕ) (us : List value.Value) → Consuming n v o [] [] f us → Handed entries arguments keeps_to p v v o [] [] f us []
-  handed_none v o f us t = record { frame = ap (λ (cs : List Claim). record v { claims = cs }) (none v.claims t.many); each = refl; arguments_are = t.fired; older = tt; coming = tt }
+  handed_none v o f us t = record { frame = ap (λ (cs : List Claim). record v { claims = cs }) (none v.claims t.many); each = refl; arguments_are = t.fired; older = tt; coming = tt; looks = []; remembered = refl; in_order = refl }
     where
       none : (cs : List Claim) → length cs ≤ 0 → cs ≡ []
       none [] l = refl
@@ -86,15 +90,18 @@ module _ {P : Type 0} (entries : P → List Entry) (arguments : P → List value
     }
 
     -- its parcel comes before the others
-    pub handed_more : (w : View) (qs : List P) → arguments q ≡ t.fired.0.claim.values → AllBelow f (entries q) → keeps_to q → ComesWithMessage p v.kept t.fired.0.claim (entries q) → Handed entries arguments keeps_to p u w o js ms f t.fired.1 qs
+    pub handed_more : (w : View) (qs : List P) → x.cell ≡ a_cell.Consumed → arguments q ≡ t.fired.0.claim.values → AllBelow f (entries q) → keeps_to q → ComesWithMessage p v.kept t.fired.0.claim (entries q) → Handed entries arguments keeps_to p u w o js ms f t.fired.1 qs
         → Handed entries arguments keeps_to p v w o (j ∷ js) (i ∷ ms) f us (q ∷ qs)
-    handed_more w qs holds below keeps comes h = record {
+    handed_more w qs consumed_it holds below keeps comes h = record {
       frame = h.frame ∙ ap (λ (z : View). handed_over z (all_together z.kept (map entries qs)) (drop_duties ms z.duties) w.looked) is
           ∙ ap (λ (e : Option ℕ). record v { kept = all_together (together v.kept (entries q)) (map entries qs); claims = []; emptying = e; duties = drop_duties (i ∷ ms) v.duties; looked = w.looked }) (sym t.home);
       each = ap suc h.each;
       arguments_are = t.fired.2 ∙ ap (λ (z : List value.Value). z ++ t.fired.1) (sym holds) ∙ ap (λ (z : List value.Value). arguments q ++ z) h.arguments_are;
       older = (below, keeps, h.older);
       coming = ((t.fired.0.claim, t.fired.0.numbered, t.fired.0.object, t.fired.0.method, comes), subst (λ (z : View). AreComing p entries o z.kept js ms qs) is h.coming);
+      looks = h.looks ++ record { number = i; word = x } ∷ [];
+      remembered = h.remembered ∙ ap (λ (z : View). record z.looked { seen = h.looks ++ z.looked.seen }) is ∙ ap (λ (z : List Look). record v.looked { seen = z }) (sym (append_assoc h.looks (record { number = i; word = x } ∷ []) v.looked.seen));
+      in_order = both_looks h.looks (record { number = i; word = x } ∷ []) ∙ (λ k. h.in_order k ++ (i, consumed_it k) ∷ []) ∙ reversed_with a_cell.Consumed i ms;
     }
 
 -- ## What was drawn is consumed
@@ -153,8 +160,8 @@ drawn_consuming n p v w o chord ms f t low home = subst (λ (z : View). Consumin
 
 module _ {P : Type 0} (entries : P → List Entry) (arguments : P → List value.Value) (keeps_to : P → Type 0) where
   -- the firing was drawn, and all its parcels came
-  pub is_fired : (p : Program) (n : ℕ) (v u w : View) (o : Object) (chord : ℕ) (ms : List ℕ) (f : ℕ) (qs : List P) (t : IsDrawn p v u o chord ms f) → f < n → Handed entries arguments keeps_to p u w o t.methods ms f t.values qs → IsFired entries arguments keeps_to p n v w o chord ms f qs
-  is_fired p n v u w o chord ms f qs t low h = record {
+  pub is_fired : (p : Program) (n : ℕ) (v u w : View) (o : Object) (chord : ℕ) (ms : List ℕ) (f : ℕ) (qs : List P) (t : IsDrawn p v u o chord ms f) → TookInOrder v u ms f → f < n → Handed entries arguments keeps_to p u w o t.methods ms f t.values qs → IsFired entries arguments keeps_to p n v w o chord ms f qs
+  is_fired p n v u w o chord ms f qs t took low h = record {
     methods = t.methods;
     is_chord = t.is_chord;
     low = low;
@@ -165,6 +172,9 @@ module _ {P : Type 0} (entries : P → List Entry) (arguments : P → List value
     place = place;
     coming = coming;
     stays = subst (IsPlace p) (sym (ap (λ (z : View). z.kept) after)) (all_are_place p entries o (firing_entry arguments o chord ms f qs ∷ v.kept) t.methods ms qs place coming);
+    looks = h.looks ++ took.looks;
+    remembered = h.remembered ∙ ap (λ (l : Looked). record l { seen = h.looks ++ l.seen }) took.remembered ∙ ap (λ (z : List Look). record v.looked { seen = z; count = Some (f + 1) }) (sym (append_assoc h.looks took.looks v.looked.seen));
+    in_order = both_looks h.looks took.looks ∙ (λ k. h.in_order k ++ took.in_order k);
     view = after;
   }
     where

@@ -9,6 +9,7 @@ use Rattle.chord_base.specs.Messages.{has, AreDifferent}
 use Rattle.chord_base.specs.declared.value.Object.{Object}
 use Rattle.chord_base.proofs.Pending.{has_more}
 use Rattle.chord_base.proofs.Waits.{either}
+use Rattle.chord_rule.specs.declared.view.Look.{Look}
 use Rattle.chord_rule.specs.declared.view.View.{View}
 use Rattle.chord_rule.specs.Made.{key}
 use Rattle.chord_bag.specs.declared.walk.Sought.{Sought}
@@ -17,13 +18,12 @@ use Rattle.chord_bag.specs.Reads.{AllAt}
 use Rattle.chord_bag.specs.Seeking.{IsSought}
 use Rattle.chord_bag.proofs.Turning.{still_alone}
 use Rattle.chord_match.specs.declared.search.Own.{Own}
-use Rattle.chord_match.specs.declared.search.Pick.{Pick}
 use Rattle.chord_match.specs.declared.search.Pick.TheVariants as a_pick
 use Rattle.chord_match.specs.declared.search.Step.{Step}
 use Rattle.chord_match.specs.declared.search.Step.TheVariants as a_step
 use Rattle.chord_match.specs.Seen.{bags_of, Grows, MayAllBeClaimed, AreMatched}
-use Rattle.chord_match.specs.Searching.{SaysOf, WasTold, WasToldIf, Searching, KeepsKnown, Moves, Learned, pick_of, IsStuckAt, Picked, PickedFirst, IsStuck, IsGathered, Gathered}
-use Rattle.chord_match.proofs.Lists.{different_at, from_place}
+use Rattle.chord_match.specs.Searching.{SaysOf, WasTold, WasToldIf, Searching, KeepsKnown, Moves, Learned, LearnsAt, LearnsOf, pick_of, IsStuckAt, Picked, PickedFirst, IsStuck, IsGathered, Gathered}
+use Rattle.chord_match.proofs.Lists.{first_has, different_at, from_place}
 use Rattle.chord_match.proofs.Growing.{grows_refl, grows_trans, sought_grows, answered_on, seen_on, duty_on, knows_on, ready_on, member_on, key_cancels, found_ready, answered}
 
 -- nothing is forgotten where nothing is done
@@ -51,6 +51,23 @@ stuck_kept own js known known' (Some i) k t = (t.0, t.1, (t.2.0, k t.0 (Busy i) 
 stuck_here : (own : Own) (j : ℕ) (js : List ℕ) (known : List (Option Sought)) (b : Option ℕ) → IsStuckAt own j known b → IsStuck own (j ∷ js) known b
 stuck_here own j js known b t = (j, rw (eq-eqb j j refl) refl, t)
 
+-- what is known more is of the first of the methods
+learns_first : (own : Own) (j : ℕ) (js : List ℕ) (known known' : List (Option Sought)) → LearnsAt own j known known' → LearnsOf own (j ∷ js) known known'
+learns_first own j js known known' t q = elim (t q) [
+  | inl e ↦ inl e
+  | inr y ↦ inr (subst (λ (z : ℕ). has z (j ∷ js) ≡ true) (sym y.0) (first_has j js), y.1)
+]
+
+-- or of one of those behind it
+learns_both : (own : Own) (j : ℕ) (js : List ℕ) (a b c : List (Option Sought)) → LearnsAt own j a b → LearnsOf own js b c → LearnsOf own (j ∷ js) a c
+learns_both own j js a b c s t q = elim (t q) [
+  | inl e ↦ elim (learns_first own j js a b s q) [
+    | inl f ↦ inl (e ∙ f)
+    | inr y ↦ inr y
+  ]
+  | inr y ↦ inr (has_more q j js y.0, y.1)
+]
+
 module _ (n : ℕ) where
   -- what was told of another bag still is
   told_on : (v u w : View) (k : ℕ) (s : Option Sought) → Grows u w → (AllAt k None u.duties → AllAt k None w.duties) → WasToldIf n v u k s → WasToldIf n v w k s
@@ -69,6 +86,7 @@ module _ (n : ℕ) where
       tells = subst (λ (z : Option Sought). WasToldIf n v u (key o j) z) e (t.cached j);
       here = e;
     };
+    others = λ q ne. refl;
   }
 
   -- what a seek answered is known from now on, and of the other bags what was known
@@ -77,7 +95,7 @@ module _ (n : ℕ) where
     told = λ v own t. record {
       moves = record {
         stands = record {
-          sought = record { grows = grows_trans v u w t.sought.grows g; once = (new_bag v own t, t.sought.once) };
+          sought = record { grows = grows_trans v u w t.sought.grows g; once = (new_bag v own t, t.sought.once); along = ap (λ (z : List Look). f.way.looks ++ z) t.sought.along };
           listed = λ k h. newest_or_before v own t k (either (k == f.way.bag)) h;
           read = t.read;
           below = t.below;
@@ -94,6 +112,7 @@ module _ (n : ℕ) where
       tells = told_new v u w (key o j) s t.sought.grows f;
       here = here;
     };
+    others = λ q ne. get_or-set_other known j q (Some s) None ne;
   }
     where
       g : Grows u w
@@ -128,14 +147,19 @@ module _ (n : ℕ) where
   picked_own v u o own j known e t = record {
     moves = record { stands = t; grows = grows_refl u; kept = keeps_refl known };
     picked = (inl (e, refl, refl), record { seen = seen_on v v u t.sought.grows own.message own.next t.read; known = inr (t.duty.0, t.duty.1, t.duty.2, t.duty.3 ∙ ap (key o) (sym e)); below = t.below; next_below = t.next_below });
+    learns = λ q. inl refl;
   }
 
   module _ (v u w : View) (o : Object) (own : Own) (j : ℕ) (known known' : List (Option Sought)) where
+    -- what is known more is of the bag that was asked for, which is another one than the own
+    learns_at : (s : Sought) → j ≢ own.method → Learned n u w o j known known' s → LearnsAt own j known known'
+    learns_at s ne a q = dite (ℕ_discrete q j) (λ same. inr (same, (λ z. ne (sym same ∙ z)))) (λ no. inl (a.others q no))
+
     -- the member is what the walk found, or there is none
     pub picked_sought : (s : Sought) → j ≢ own.method → Learned n u w o j known known' s → Searching n v u o own known → Picked n v u w o own j known known' (pick_of s)
-    picked_sought (Found i next) ne a t = let r = a.told v own t in record { moves = r.moves; picked = (inr (ne, r.tells.answered), record { seen = r.tells.says.0; known = r.tells.says.1; below = r.tells.below.0; next_below = r.tells.below.1 }) }
-    picked_sought Bare ne a t = let r = a.told v own t in record { moves = r.moves; picked = (ne, r.here) }
-    picked_sought (Busy i) ne a t = let r = a.told v own t in record { moves = r.moves; picked = (ne, r.here) }
+    picked_sought (Found i next) ne a t = let r = a.told v own t in record { moves = r.moves; picked = (inr (ne, r.tells.answered), record { seen = r.tells.says.0; known = r.tells.says.1; below = r.tells.below.0; next_below = r.tells.below.1 }); learns = learns_at (Found i next) ne a }
+    picked_sought Bare ne a t = let r = a.told v own t in record { moves = r.moves; picked = (ne, r.here); learns = learns_at Bare ne a }
+    picked_sought (Busy i) ne a t = let r = a.told v own t in record { moves = r.moves; picked = (ne, r.here); learns = learns_at (Busy i) ne a }
 
   -- the own message is picked before its bag is sought
   pub first_own : (v u : View) (o : Object) (own : Own) (j : ℕ) (known : List (Option Sought)) → j ≡ own.method → Searching n v u o own known → PickedFirst n v u u o own j known (a_pick.Take own.message own.next)
@@ -157,17 +181,17 @@ module _ (n : ℕ) where
 
   -- no method needs no member
   pub gathered_none : (v u : View) (o : Object) (own : Own) (known : List (Option Sought)) (ms : List ℕ) (xs : List (Option ℕ)) → Searching n v u o own known → Gathered n v u u o own [] known known ms ms xs xs a_step.All
-  gathered_none v u o own known ms xs t = record { moves = record { stands = t; grows = grows_refl u; kept = keeps_refl known }; gathered = ([], [], sym (append-nil ms), sym (append-nil xs), tt, tt) }
+  gathered_none v u o own known ms xs t = record { moves = record { stands = t; grows = grows_refl u; kept = keeps_refl known }; gathered = ([], [], sym (append-nil ms), sym (append-nil xs), tt, tt); learns = λ q. inl refl }
 
   -- the first method has no member
   pub gathered_stuck : (v u w : View) (o : Object) (own : Own) (j : ℕ) (js : List ℕ) (known known' : List (Option Sought)) (ms : List ℕ) (xs : List (Option ℕ)) (b : Option ℕ) → Picked n v u w o own j known known' (a_pick.Stuck b)
       → Gathered n v u w o own (j ∷ js) known known' ms ms xs xs (a_step.Stuck b)
-  gathered_stuck v u w o own j js known known' ms xs b t = record { moves = t.moves; gathered = stuck_here own j js known' b t.picked }
+  gathered_stuck v u w o own j js known known' ms xs b t = record { moves = t.moves; gathered = stuck_here own j js known' b t.picked; learns = learns_first own j js known known' t.learns }
 
   -- the first method has a member, and the others are gone through
   pub gathered_more : (v u x w : View) (o : Object) (own : Own) (j : ℕ) (js : List ℕ) (a b c : List (Option Sought)) (ms ms' : List ℕ) (xs xs' : List (Option ℕ)) (i : ℕ) (next : Option ℕ) (s : Step)
       → Picked n v u x o own j a b (a_pick.Take i next) → Gathered n v x w o own js b c (ms ++ i ∷ []) ms' (xs ++ next ∷ []) xs' s → Gathered n v u w o own (j ∷ js) a c ms ms' xs xs' s
-  gathered_more v u x w o own j js a b c ms ms' xs xs' i next s p t = record { moves = moves_trans v u x w o own a b c p.moves t.moves; gathered = on s t.gathered }
+  gathered_more v u x w o own j js a b c ms ms' xs xs' i next s p t = record { moves = moves_trans v u x w o own a b c p.moves t.moves; gathered = on s t.gathered; learns = learns_both own j js a b c p.learns t.learns }
     where
       on : (s : Step) → IsGathered n v w o own js c (ms ++ i ∷ []) ms' (xs ++ next ∷ []) xs' s → IsGathered n v w o own (j ∷ js) c ms ms' xs xs' s
       on a_step.All g = (

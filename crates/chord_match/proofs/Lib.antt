@@ -1,4 +1,5 @@
 pub mod Lists
+pub mod InOrder
 pub mod Growing
 pub mod Noted
 pub mod Knowing

@@ -1,10 +1,12 @@
 -- Members are claimed one after another.
-use Rattle.std.specs.Prelude.{◌≡◌, ◌≢◌, ℕ, zero, suc, ◌<◌, ◌≤◌, true, false, List, ◌∷◌, ◌++◌, length, slice_get, slice_index_or, Option, Some, None}
+use Rattle.std.specs.Prelude.{◌≡◌, ◌≢◌, ℕ, zero, suc, ◌+◌, ◌-◌, ◌<◌, ◌≤◌, true, false, List, [], ◌∷◌, ◌++◌, length, reverse, take, drop, slice_get, slice_index_or, Option, Some, None}
 use Rattle.chord_base.specs.Meaning.{Program}
 use Rattle.chord_base.specs.Story.{AllBelow}
 use Rattle.chord_base.specs.declared.event.What.TheVariants.{Fired}
 use Rattle.chord_base.specs.declared.value.Object.{Object}
 use Rattle.chord_base.specs.declared.value.Value as value
+use Rattle.chord_word.specs.declared.cells.Cell.{Cell}
+use Rattle.chord_word.specs.declared.cells.Cell.TheVariants as a_cell
 use Rattle.chord_word.specs.declared.cells.Word.{Word}
 use Rattle.chord_rule.specs.declared.view.Claim.{Claim}
 use Rattle.chord_rule.specs.declared.view.Look.{Look}
@@ -16,7 +18,7 @@ use Rattle.chord_rule.specs.Kinds.{entry, saw, claimed, firing_drawn}
 use Rattle.chord_rule.specs.Tells.{CameNext, IsNewClaim}
 use Rattle.chord_match.specs.declared.claiming.Missed.{Missed}
 use Rattle.chord_match.specs.declared.claiming.Missed.TheVariants.{Lost, Spent}
-use Rattle.chord_match.specs.Fires.{AreLastPending, WasGone}
+use Rattle.chord_match.specs.Fires.{messages_and_cells, all_with, AreLastPending, WasGone}
 use Rattle.chord_match.specs.Seen.{AreSeen}
 
 -- the desk has claimed i, for this object and method and for no firing yet
@@ -39,6 +41,7 @@ pub record WasClaimed (n : ℕ) (p : Program) (u w : View) (o : Object) (chord :
   pub claim : Claim
   pub new : IsNewClaim u (slice_index_or ms k 0) (slice_index_or xs k None) claim
   pub word : Word
+  pub written : word.cell ≡ a_cell.Claimed
   pub becomes : w ≡ saw (claimed u claim) (slice_index_or ms k 0) word
 
 -- from the view v the first so many members were claimed one after another, up to the view w
@@ -64,6 +67,20 @@ pub record IsDrawn (p : Program) (v w : View) (o : Object) (chord : ℕ) (ms : L
   pub place : IsPlace p (entry f f (Fired chord o ms values) ∷ v.kept)
   pub drawn : w ≡ firing_drawn (with_claims v claims w.looked) f chord o ms values
 
+-- all members were claimed in order and each once, the firing f was drawn, and nothing else was looked at
+pub record TookInOrder (v w : View) (ms : List ℕ) (f : ℕ) : Type 0 where
+  pub looks : List Look
+  pub remembered : w.looked ≡ record v.looked { seen = looks ++ v.looked.seen; count = Some (f + 1) }
+  pub in_order : messages_and_cells looks ≡ all_with a_cell.Claimed (reverse ms)
+
+-- the members from this place up to below that one
+abbrev pub members_from : ℕ → ℕ → List ℕ → List ℕ
+members_from at end ms = take (end - at) (drop at ms)
+
+-- by these looks, the newest first, these members were claimed in order, then came `rest`, and then they were given back, the last one first
+abbrev pub WentAndCame : List ℕ → List (ℕ × Cell) → List Look → Type 0
+WentAndCame is rest ls = messages_and_cells ls ≡ all_with a_cell.Pending is ++ (rest ++ all_with a_cell.Claimed (reverse is))
+
 -- the desk as it was, but for what it read and wrote, and that it was told
 abbrev pub missed_by : View → Missed → Looked → View
 missed_by v (Lost i) l = record v { looked = l }
@@ -77,11 +94,14 @@ pub record IsGoneFrom (n : ℕ) (ms : List ℕ) (at : ℕ) (ls : List Look) (i :
   pub is : i ≡ slice_index_or ms place 0
   pub below : i < n
   pub read : WasGone i ls
+  pub cell : Cell
+  pub gone : cell ≢ a_cell.Pending
+  pub in_order : WentAndCame (members_from at place ms) ((i, cell) ∷ []) ls
 
--- a member from place `at` on was gone, or the counter had passed the limit
+-- from place `at` on members were claimed and given back, up to one that was gone, or all, since the counter had passed the limit
 abbrev pub IsWhy : ℕ → List ℕ → ℕ → Looked → List Look → Missed → Type 0
 IsWhy n ms at l ls (Lost i) = IsGoneFrom n ms at ls i
-IsWhy n ms at l ls Spent = (c : ℕ) × (n < c) × (l.count ≡ Some c)
+IsWhy n ms at l ls Spent = (c : ℕ) × (n < c) × (l.count ≡ Some c) × WentAndCame (members_from at (length ms) ms) [] ls
 
 -- no member was lost
 abbrev pub IsNotLost : Missed → Type 0

@@ -1,16 +1,18 @@
 -- The members of a firing are consumed one after another, and their parcels handed out.
-use Rattle.std.specs.Prelude.{◌≡◌, ◌≢◌, ℕ, ◌<◌, ◌≤◌, List, [], ◌∷◌, ◌++◌, map, length, Some, None}
+use Rattle.std.specs.Prelude.{◌≡◌, ◌≢◌, ℕ, ◌<◌, ◌≤◌, List, [], ◌∷◌, ◌++◌, map, length, reverse, Some, None}
 use Rattle.chord_base.specs.Meaning.{Program}
 use Rattle.chord_base.specs.declared.event.Entry.{Entry}
 use Rattle.chord_base.specs.declared.value.Object.{Object}
 use Rattle.chord_base.specs.declared.value.Value as value
+use Rattle.chord_word.specs.declared.cells.Cell.TheVariants.{Consumed}
 use Rattle.chord_rule.specs.declared.view.Claim.{Claim}
 use Rattle.chord_rule.specs.declared.view.Duty.{Duty}
+use Rattle.chord_rule.specs.declared.view.Look.{Look}
 use Rattle.chord_rule.specs.declared.view.Looked.{Looked}
 use Rattle.chord_rule.specs.declared.view.View.{View}
 use Rattle.chord_rule.specs.Claims.{HasThe}
 use Rattle.chord_rule.specs.Numbers.{HasNumber}
-use Rattle.chord_match.specs.Fires.{all_together, drop_duties, laid_together, AreOlder, AreComing}
+use Rattle.chord_match.specs.Fires.{messages_and_cells, all_with, all_together, drop_duties, laid_together, AreOlder, AreComing}
 
 -- one of the claims is on the message i, to the method j of the object, for the firing f
 pub record IsFiredFor (cs : List Claim) (f : ℕ) (o : Object) (j i : ℕ) : Type 0 where
@@ -51,3 +53,7 @@ pub record Handed {P : Type 0} (entries : P → List Entry) (arguments : P → L
   pub arguments_are : us ≡ laid_together arguments qs
   pub older : AreOlder entries keeps_to f qs
   pub coming : AreComing p entries o v.kept js ms qs
+  -- the members were consumed in order and each once, and nothing else was looked at
+  pub looks : List Look
+  pub remembered : w.looked ≡ record v.looked { seen = looks ++ v.looked.seen }
+  pub in_order : messages_and_cells looks ≡ all_with Consumed (reverse ms)

@@ -6,10 +6,11 @@ use Rattle.chord_base.specs.declared.value.Object.{Object}
 use Rattle.chord_word.specs.declared.cells.Cell.{Cell}
 use Rattle.chord_word.specs.declared.cells.Cell.TheVariants.{Pending, Claimed, Consumed, Woken}
 use Rattle.chord_rule.specs.declared.view.View.{View}
+use Rattle.chord_rule.specs.declared.view.Way.{Way}
 use Rattle.chord_rule.specs.Kinds.{looked_cell, rested}
 use Rattle.chord_rule.specs.Made.{key}
 use Rattle.chord_rule.specs.Numbers.{HasNumber}
-use Rattle.chord_rule.specs.Ways.{IsAloneDesk}
+use Rattle.chord_rule.specs.Ways.{HasWay, IsAloneDesk}
 use Rattle.chord_bag.specs.declared.walk.Sought.TheVariants as a_sought
 use Rattle.chord_match.specs.declared.search.Finding.{Finding}
 use Rattle.chord_match.specs.declared.search.Finding.TheVariants.{Match, Left, Taken, Busy}
@@ -18,6 +19,10 @@ use Rattle.chord_match.specs.Seen.{HasSought, Answered, AreMatched, AreSeen}
 -- a chord of the object's class with the method
 abbrev pub IsChordWith : Program → Object → ℕ → ℕ → List ℕ → Type 0
 IsChordWith p o method k js = (slice_get (p.chords o.class) k ≡ Some js) × (has method js ≡ true)
+
+-- each of these ways is through the bag of another method of the object, which stands in a chord of its class with this one
+abbrev pub AreWithinChords : Program → Object → ℕ → List Way → Type 0
+AreWithinChords p o method ws = (x : Way) → HasWay x ws → (k : ℕ) × (js : List ℕ) × IsChordWith p o method k js × ((j : ℕ) × (has j js ≡ true) × (j ≢ method) × (x.bag ≡ key o j))
 
 module _ (v w : View) (o : Object) (method : ℕ) where
   -- since v, another method of the chord had a bare bag
@@ -32,10 +37,12 @@ module _ (v w : View) (o : Object) (method : ℕ) where
 abbrev pub read_so : View → ℕ → Cell → Option ℕ → View
 read_so v m c next = looked_cell v m (record { cell = c; next = next })
 
--- m was read pending, and since then bags were sought, none of them twice, and a message was found for each other method of a chord with m, in the bag of that method
+-- m was read pending, and since then bags of chords with m were sought, none of them twice, and a message was found for each other method of a chord with m, in the bag of that method
 pub record IsMatch (p : Program) (n : ℕ) (v w : View) (m : ℕ) (o : Object) (method k : ℕ) (ms : List ℕ) (xs : List (Option ℕ)) : Type 0 where
   pub next : Option ℕ
   pub sought : HasSought (read_so v m Pending next) w
+  -- no bag was sought but those of the chords with m
+  pub within : AreWithinChords p o method sought.grows.ways
   -- the desk saw the members so that it may fire the chord
   pub seen : AreSeen n p w o k ms xs
   pub chord : IsChordWith p o method k seen.methods
@@ -44,16 +51,18 @@ pub record IsMatch (p : Program) (n : ℕ) (v w : View) (m : ℕ) (o : Object) (
   -- each was read pending with its next, in the bag of its method
   pub matched : AreMatched (read_so v m Pending next) w o m method next seen.methods ms xs
 
--- m was read pending, and since then bags were sought, none of them twice, and each chord with m had another method whose bag was bare
+-- m was read pending, and since then bags of chords with m were sought, none of them twice, and each chord with m had another method whose bag was bare
 pub record IsLeftAnswer (p : Program) (v u : View) (m : ℕ) (o : Object) (method : ℕ) : Type 0 where
   pub next : Option ℕ
   pub sought : HasSought (read_so v m Pending next) u
+  pub within : AreWithinChords p o method sought.grows.ways
   pub lacking : (k : ℕ) (js : List ℕ) → IsChordWith p o method k js → IsLacking (read_so v m Pending next) u o method js
 
--- m was read pending, and since then bags were sought, none of them twice, and each chord with m had another method whose bag was bare or busy, and i is the message of a busy one
+-- m was read pending, and since then bags of chords with m were sought, none of them twice, and each chord with m had another method whose bag was bare or busy, and i is the message of a busy one
 pub record IsBusyWith (p : Program) (v w : View) (m : ℕ) (o : Object) (method i : ℕ) : Type 0 where
   pub next : Option ℕ
   pub sought : HasSought (read_so v m Pending next) w
+  pub within : AreWithinChords p o method sought.grows.ways
   pub each : (k : ℕ) (js : List ℕ) → IsChordWith p o method k js → IsLacking (read_so v m Pending next) w o method js ⊎ ((x : ℕ) × IsHeldUp (read_so v m Pending next) w o method js x)
   pub one : (k : ℕ) × (js : List ℕ) × IsChordWith p o method k js × IsHeldUp (read_so v m Pending next) w o method js i
 

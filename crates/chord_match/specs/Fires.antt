@@ -1,12 +1,13 @@
 -- What each answer of an attempt to fire a chord says.
-use Rattle.std.specs.Prelude.{◌≡◌, ◌≢◌, ℕ, ◌<◌, ◌≤◌, true, List, [], ◌∷◌, ◌++◌, map, length, slice_get, slice_index_or, Option, Some, None}
+use Rattle.std.specs.Prelude.{◌≡◌, ◌≢◌, ℕ, ◌+◌, ◌<◌, ◌≤◌, true, List, [], ◌∷◌, ◌++◌, map, length, reverse, take, slice_get, slice_index_or, Option, Some, None}
 use Rattle.chord_base.specs.Meaning.{Program}
 use Rattle.chord_base.specs.Story.{AllBelow, together}
 use Rattle.chord_base.specs.declared.event.Entry.{Entry}
 use Rattle.chord_base.specs.declared.event.What.TheVariants as what
 use Rattle.chord_base.specs.declared.value.Object.{Object}
 use Rattle.chord_base.specs.declared.value.Value as value
-use Rattle.chord_word.specs.declared.cells.Cell.TheVariants.{Pending}
+use Rattle.chord_word.specs.declared.cells.Cell.{Cell}
+use Rattle.chord_word.specs.declared.cells.Cell.TheVariants.{Pending, Claimed, Consumed}
 use Rattle.chord_word.specs.declared.cells.Word.{Word}
 use Rattle.chord_rule.specs.declared.view.Claim.{Claim}
 use Rattle.chord_rule.specs.declared.view.Duty.{Duty}
@@ -27,6 +28,24 @@ use Rattle.chord_match.specs.declared.handing.Firing.TheVariants.{Fired, Lost, S
 abbrev pub AreLastPending : View → List ℕ → List (Option ℕ) → ℕ → Type 0
 AreLastPending v ms xs at = (q : ℕ) → at ≤ q → q < length ms → LastSeen (slice_index_or ms q 0) (record { cell = Pending; next = slice_index_or xs q None }) v.looked.seen
 
+-- the messages of these looks, each with the cell that was read or written there
+abbrev pub messages_and_cells : List Look → List (ℕ × Cell)
+messages_and_cells [] = []
+messages_and_cells (l ∷ ls) = (l.number, l.word.cell) ∷ messages_and_cells ls
+
+-- these messages, each with this cell
+abbrev pub all_with : Cell → List ℕ → List (ℕ × Cell)
+all_with c [] = []
+all_with c (i ∷ is) = (i, c) ∷ all_with c is
+
+-- by these looks, the newest first, members were claimed in order and each once, up to the first that was not pending, which is i; then they were given back, the last one first
+pub record TriedUpTo (ms : List ℕ) (i : ℕ) (looks : List Look) : Type 0 where
+  pub place : ℕ
+  pub here : slice_get ms place ≡ Some i
+  pub cell : Cell
+  pub gone : cell ≢ Pending
+  pub in_order : messages_and_cells looks ≡ all_with Pending (take place ms) ++ (i, cell) ∷ all_with Claimed (reverse (take place ms))
+
 -- the last of these looks at the cell i read it not pending
 abbrev pub WasGone : ℕ → List Look → Type 0
 WasGone i ls = (c : Word) × LastSeen i c ls × (c.cell ≢ Pending)
@@ -44,11 +63,13 @@ pub record IsLost (n : ℕ) (v w : View) (ms : List ℕ) (xs : List (Option ℕ)
   pub read : WasGone i looks
   -- of what it remembers only these looks at cells are new: the ways, which tell it in what bags the members are, are those before
   pub remembered : w.looked ≡ record v.looked { seen = looks ++ v.looked.seen }
+  -- nothing was tried again, and no member behind i was tried
+  pub tried : TriedUpTo ms i looks
   -- on a first desk alone no member is lost that it last read or wrote pending
   pub alone : v.first ≡ true → v.lent ≡ 0 → AreLastPending v ms xs 0 → ⊥
 
 -- the draw was told that the limit on events is reached, and all claims were given back
-pub record IsTurnedAway (n : ℕ) (v w : View) : Type 0 where
+pub record IsTurnedAway (n : ℕ) (v w : View) (ms : List ℕ) : Type 0 where
   -- the desk is as before but for what it read and wrote, and that it was told
   pub same : w ≡ record v { looked = w.looked; spent = true }
   pub claims : w.claims ≡ []
@@ -56,11 +77,13 @@ pub record IsTurnedAway (n : ℕ) (v w : View) : Type 0 where
   pub looks : List Look
   -- of what it remembers only these looks at cells are new, and the counter
   pub remembered : w.looked ≡ record v.looked { seen = looks ++ v.looked.seen; count = w.looked.count }
+  -- all members were claimed in order and each once, and given back, the last one first
+  pub in_order : messages_and_cells looks ≡ all_with Pending ms ++ all_with Claimed (reverse ms)
 
 -- why nothing was fired
 abbrev pub IsMissedBy : ℕ → View → View → List ℕ → List (Option ℕ) → Missed → Type 0
 IsMissedBy n v w ms xs (a_miss.Lost i) = IsLost n v w ms xs i
-IsMissedBy n v w ms xs a_miss.Spent = IsTurnedAway n v w
+IsMissedBy n v w ms xs a_miss.Spent = IsTurnedAway n v w ms
 
 -- the entries of these parcels came, one parcel after another
 abbrev pub all_together : List Entry → List (List Entry) → List Entry
@@ -114,6 +137,11 @@ pub record IsFired {P : Type 0} (entries : P → List Entry) (arguments : P → 
   pub coming : AreComing p entries o (firing_entry arguments o chord ms f qs ∷ v.kept) methods ms qs
   -- what the desk then keeps is a place of the run
   pub stays : IsPlace p w.kept
+  -- of what it remembers only these looks at cells are new, and the counter
+  pub looks : List Look
+  pub remembered : w.looked ≡ record v.looked { seen = looks ++ v.looked.seen; count = Some (f + 1) }
+  -- the members were claimed in order and each once, and then consumed in order and each once
+  pub in_order : messages_and_cells looks ≡ all_with Consumed (reverse ms) ++ all_with Claimed (reverse ms)
   -- the desk keeps the firing's entry and what the parcels keep; it has no claim, and no duty on a member
   pub view : w ≡ record v { kept = all_together (firing_entry arguments o chord ms f qs ∷ v.kept) (map entries qs); draws = firing_entry arguments o chord ms f qs ∷ v.draws; claims = []; unposted = f ∷ v.unposted; drawn = true; duties = drop_duties ms v.duties; looked = w.looked }
 
@@ -121,4 +149,4 @@ pub record IsFired {P : Type 0} (entries : P → List Entry) (arguments : P → 
 abbrev pub IsFireAnswer : {P : Type 0} → (P → List Entry) → (P → List value.Value) → (P → Type 0) → Program → ℕ → View → View → Object → ℕ → List ℕ → List (Option ℕ) → Firing P → Type 0
 IsFireAnswer entries arguments keeps_to p n v w o chord ms xs (Fired f hand) = IsFired entries arguments keeps_to p n v w o chord ms f hand
 IsFireAnswer entries arguments keeps_to p n v w o chord ms xs (Lost i) = IsLost n v w ms xs i
-IsFireAnswer entries arguments keeps_to p n v w o chord ms xs Spent = IsTurnedAway n v w
+IsFireAnswer entries arguments keeps_to p n v w o chord ms xs Spent = IsTurnedAway n v w ms

@@ -1,5 +1,5 @@
 -- What is known while a chord is looked for.
-use Rattle.std.specs.Prelude.{◌≡◌, ◌≢◌, ℕ, ◌<◌, true, List, ◌++◌, length, slice_get, slice_index_or, Option, Some, None}
+use Rattle.std.specs.Prelude.{◌≡◌, ◌≢◌, ◌⊎◌, ℕ, ◌<◌, true, List, ◌++◌, length, slice_get, slice_index_or, Option, Some, None}
 use Rattle.chord_base.specs.Messages.{has}
 use Rattle.chord_base.specs.declared.value.Object.{Object}
 use Rattle.chord_rule.specs.declared.view.View.{View}
@@ -65,9 +65,18 @@ pub record MovesTo (n : ℕ) (v u w : View) (o : Object) (own : Own) (j : ℕ) (
   pub tells : WasTold n v w (key o j) s
   pub here : slice_index_or known' j None ≡ Some s
 
--- so for whatever search had come to the view u
+-- so for whatever search had come to the view u, and of the other bags no more is known
 pub record Learned (n : ℕ) (u w : View) (o : Object) (j : ℕ) (known known' : List (Option Sought)) (s : Sought) : Type 0 where
   pub told : (v : View) (own : Own) → Searching n v u o own known → MovesTo n v u w o own j known known' s
+  pub others : (q : ℕ) → q ≢ j → slice_index_or known' q None ≡ slice_index_or known q None
+
+-- what is known more is of the bag of the method j, which is another one than the own
+abbrev pub LearnsAt : Own → ℕ → (known known' : List (Option Sought)) → Type 0
+LearnsAt own j known known' = (q : ℕ) → (slice_index_or known' q None ≡ slice_index_or known q None) ⊎ ((q ≡ j) × (q ≢ own.method))
+
+-- what is known more is of the bags of these methods, other ones than the own
+abbrev pub LearnsOf : Own → List ℕ → (known known' : List (Option Sought)) → Type 0
+LearnsOf own js known known' = (q : ℕ) → (slice_index_or known' q None ≡ slice_index_or known q None) ⊎ ((has q js ≡ true) × (q ≢ own.method))
 
 -- what a walk came to, as a pick
 abbrev pub pick_of : Sought → Pick
@@ -89,6 +98,7 @@ IsPicked n v w o own j known (a_pick.Stuck b) = IsStuckAt own j known b
 pub record Picked (n : ℕ) (v u w : View) (o : Object) (own : Own) (j : ℕ) (known known' : List (Option Sought)) (t : Pick) : Type 0 where
   pub moves : Moves n v u w o own known known'
   pub picked : IsPicked n v w o own j known' t
+  pub learns : LearnsAt own j known known'
 
 -- so for a method whose bag was not sought: of the other bags no more is known
 pub record PickedFirst (n : ℕ) (v u w : View) (o : Object) (own : Own) (j : ℕ) (known : List (Option Sought)) (t : Pick) : Type 0 where
@@ -110,6 +120,7 @@ IsGathered n v w o own js known ms ms' xs xs' (a_step.Stuck b) = IsStuck own js 
 pub record Gathered (n : ℕ) (v u w : View) (o : Object) (own : Own) (js : List ℕ) (known known' : List (Option Sought)) (ms ms' : List ℕ) (xs xs' : List (Option ℕ)) (t : Step) : Type 0 where
   pub moves : Moves n v u w o own known known'
   pub gathered : IsGathered n v w o own js known' ms ms' xs xs' t
+  pub learns : LearnsOf own js known known'
 
 -- the first of two messages that are in other hands
 abbrev pub firstly : Option ℕ → Option ℕ → Option ℕ
@@ -127,7 +138,12 @@ abbrev pub IsVerdict : ℕ → View → View → Object → Own → List (List �
 IsVerdict n v w o own jss known ms xs (a_verdict.Match k) = (js : List ℕ) × (slice_get jss k ≡ Some js) × (has own.method js ≡ true) × AreMatched v w o own.message own.method own.next js ms xs × MayAllBeClaimed n w o js ms xs
 IsVerdict n v w o own jss known ms xs (a_verdict.Without b) = AreStuck own jss (length jss) known b
 
+-- of each bag nothing is known, or it is that of another method, which stands in one of these chords with the own one
+abbrev pub KnowsBeside : Own → List (List ℕ) → List (Option Sought) → Type 0
+KnowsBeside own jss known = (q : ℕ) → (slice_index_or known q None ≡ None) ⊎ ((k : ℕ) × (js : List ℕ) × (slice_get jss k ≡ Some js) × (has own.method js ≡ true) × (has q js ≡ true) × (q ≢ own.method))
+
 -- the search of the chords came to this verdict, and this is known of the bags
 pub record IsThrough (n : ℕ) (v w : View) (o : Object) (own : Own) (jss : List (List ℕ)) (known' : List (Option Sought)) (ms : List ℕ) (xs : List (Option ℕ)) (t : Verdict) : Type 0 where
   pub stands : Searching n v w o own known'
   pub verdict : IsVerdict n v w o own jss known' ms xs t
+  pub beside : KnowsBeside own jss known'

@@ -27,10 +27,16 @@ abbrev pub bags_of : List Way → List ℕ
 bags_of [] = []
 bags_of (w ∷ ws) = w.bag ∷ bags_of ws
 
--- from one view to another bags were sought, none of them twice
+-- the looks of these ways
+abbrev pub looks_along : List Way → List Look
+looks_along [] = []
+looks_along (w ∷ ws) = w.looks ++ looks_along ws
+
+-- from one view to another bags were sought, none of them twice, and no other cells were looked at
 pub record HasSought (u w : View) : Type 0 where
   pub grows : Grows u w
   pub once : AreDifferent (bags_of grows.ways)
+  pub along : grows.looks ≡ looks_along grows.ways
 
 -- since v a way of the bag k was gone, with this answer
 abbrev pub Answered : View → View → ℕ → Sought → Type 0

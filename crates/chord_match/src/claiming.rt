@@ -2,7 +2,7 @@
 ghost use Rattle.std.specs.Prelude.{ℕ, ◌<◌, List, Option, MatchResult};
 ghost use Rattle.chord_code.specs.Laws.{ChordsAreRight};
 ghost use Rattle.chord_space.specs.Desks.{view, program_of, IsDeskOf, IsSameDesk};
-ghost use Rattle.chord_match.specs.Claiming.{Taking, WereClaimed, IsDrawn, IsMissed};
+ghost use Rattle.chord_match.specs.Claiming.{Taking, WereClaimed, IsDrawn, TookInOrder, IsMissed};
 ghost use Rattle.chord_match.specs.declared.claiming.Missed as a_miss;
 ghost use Rattle.chord_rule.specs.declared.view.View.{View};
 
@@ -47,7 +47,7 @@ pub fn take_members<P: Carry>(
     requires right { (object.number < 65536) × ChordsAreRight (program_of space.now) }
     requires taking { Taking space.now.events (program_of space.now) (view desk.old) object chord members.now nexts.now 0 }
     ensures desk { IsSameDesk desk.old desk.new }
-    ensures taken { MatchResult result (λ f. (f < space.now.events) × IsDrawn (program_of space.now) (view desk.old) (view desk.new) object chord members.now f) (λ x. IsMissed space.now.events (view desk.old) (view desk.new) members.now nexts.now 0 x) }
+    ensures taken { MatchResult result (λ f. (f < space.now.events) × IsDrawn (program_of space.now) (view desk.old) (view desk.new) object chord members.now f × TookInOrder (view desk.old) (view desk.new) members.now f) (λ x. IsMissed space.now.events (view desk.old) (view desk.new) members.now nexts.now 0 x) }
 {
     let items = members.items();
     for at in 0..items.len() {

@@ -76,12 +76,13 @@ fn lay_aside<P: Drop>(hand: Hand<P>)
 }
 
 /// Fires the chord with these messages, which the desk saw pending in the bags of its methods: claims them in member order, draws
-/// the firing, and takes their parcels in header order, or claims nothing and fires nothing. Fired: the desk keeps the firing's
-/// entry, whose values are those of the parcels laid together, and what the parcels keep; it has no claim, and its duties on the
-/// members are gone. `Lost(i)`: member i was not pending when the desk last looked at it, which it did in this call; one that it
-/// claimed itself was pending then, since it gave it back. `Spent`: the counter had reached the limit on events. Of both it has no
-/// claim afterwards, and is as it was but for what it read and wrote; so members that it saw it has seen, and it may fire the chord
-/// again. On a first desk that has lent none it is never Lost where the desk last read or wrote all members pending.
+/// the firing, and takes their parcels in header order, or claims nothing and fires nothing. Each member is claimed once, and the
+/// first that is not pending is the last one that is tried. Fired: the desk keeps the firing's entry, whose values are those of the
+/// parcels laid together, and what the parcels keep; it has no claim, and its duties on the members are gone. `Lost(i)`: member i
+/// was not pending when the desk last looked at it, which it did in this call; one that it claimed itself was pending then, since
+/// it gave it back. `Spent`: the counter had reached the limit on events. Of both it has no claim afterwards, and is as it was but
+/// for what it read and wrote; so members that it saw it has seen, and it may fire the chord again. On a first desk that has lent
+/// none it is never Lost where the desk last read or wrote all members pending.
 ///
 /// Claiming all messages of a chord one after another, and giving the claims back where one is gone, is from Turon and Russo,
 /// "Scalable Join Patterns" (OOPSLA 2011).

@@ -9,7 +9,7 @@ use Rattle.chord_word.specs.declared.cells.Word.{Word}
 use Rattle.chord_space.specs.Desks.{view, program_of}
 use Rattle.chord_match.specs.declared.claiming.Missed.TheVariants.{Lost, Spent}
 use Rattle.chord_match.specs.Claiming.{Taking, WereClaimed, IsMissed}
-use Rattle.chord_match.proofs.Claims.{next_is_below, same_lengths, claimed_all, nexts_long, member_ready, taking_more, missed_full, missed_one, taken_all, drawn_from_first}
+use Rattle.chord_match.proofs.Claims.{next_is_below, same_lengths, claimed_all, nexts_long, member_ready, taking_more, missed_full, missed_one, taken_all, took_in_order, drawn_from_first}
 use Rattle.chord_match.proofs.claiming.take_members.Goals as goal
 
 pub loop-at-init : goal.loop-at-init
@@ -55,7 +55,7 @@ loop-at-preserved g c =
       c.claim.ensures.desk.0 ∙ c.loop-at.invariant.0,
       (c.claim.ensures.desk.0 ∙ c.loop-at.invariant.1.0, c.claim.ensures.desk.1 ∙ c.loop-at.invariant.1.1),
       subst (λ (z : View). Taking n p z o c.args.chord ms xs (k + 1)) (sym now) more,
-      subst (λ (q : ℕ). WereClaimed n p (view c.args.desk.now) o c.args.chord ms xs q (view c.claim.new.desk)) next (v, c.loop-at.invariant.3, record { taking = t; low = low; claim = made.0; new = new; word = word; becomes = now }),
+      subst (λ (q : ℕ). WereClaimed n p (view c.args.desk.now) o c.args.chord ms xs q (view c.claim.new.desk)) next (v, c.loop-at.invariant.3, record { taking = t; low = low; claim = made.0; new = new; word = word; written = refl; becomes = now }),
     )
 
 pub give_back_first-requires-clause-missed : goal.give_back_first-requires-clause-missed
@@ -101,6 +101,7 @@ returns-in-Ok-draw_firing-clause-taken g c =
       d.0,
       drawn_from_first n p (view c.args.desk.now) (view c.draw_firing.new.desk) o c.args.chord ms xs c.in-Ok-draw_firing.number c.loop-at.at v c.loop-at.invariant.3
           (taken_all n p v (view c.draw_firing.new.desk) o c.args.chord ms xs c.loop-at.at c.in-Ok-draw_firing.number t.seen.methods r.0 t full t.seen.is_chord r.1 d.1 (d.2 t.seen.methods r.0 t.seen.is_chord r.1)),
+      took_in_order n p (view c.args.desk.now) (view c.draw_firing.new.desk) o c.args.chord ms xs c.in-Ok-draw_firing.number c.loop-at.at v full c.loop-at.invariant.3 (ap (λ (z : View). z.looked) (d.2 t.seen.methods r.0 t.seen.is_chord r.1).0),
     )
 
 pub give_back_first-requires-in-Err-draw_firing-clause-missed : goal.give_back_first-requires-in-Err-draw_firing-clause-missed
@@ -111,7 +112,7 @@ give_back_first-requires-in-Err-draw_firing-clause-missed g c =
     let r = claimed_all v.claims o t.seen.methods ms lengths.0 (λ q l. t.claimed q (omega (arith, l, full))) in
     let told = c.in-Err-draw_firing.ensures.told in
     let all : c.loop-at.at ≡ length c.items-items.result.now = full ∙ sym (ap length c.items-items.ensures.numbers) in
-    let m = missed_full n v (view c.draw_firing.new.desk) ms xs (length c.items-items.result.now) told.0 told.1 told.2 in
+    let m = missed_full n v (view c.draw_firing.new.desk) ms xs (length c.items-items.result.now) told.0 (ap length c.items-items.ensures.numbers) told.1 told.2 in
     let chain = subst (λ (q : ℕ). WereClaimed n p (view c.args.desk.now) o c.args.chord ms xs q v) all c.loop-at.invariant.3 in
     (o, c.args.chord, xs, view c.args.desk.now, v, Spent, c.requires.right.0, c.requires.right.1, chain, m)
 
@@ -123,6 +124,6 @@ returns-in-Err-draw_firing-clause-taken g c =
     let r = claimed_all v.claims o t.seen.methods ms lengths.0 (λ q l. t.claimed q (omega (arith, l, full))) in
     let told = c.in-Err-draw_firing.ensures.told in
     let all : c.loop-at.at ≡ length c.items-items.result.now = full ∙ sym (ap length c.items-items.ensures.numbers) in
-    let m = missed_full n v (view c.draw_firing.new.desk) ms xs (length c.items-items.result.now) told.0 told.1 told.2 in
+    let m = missed_full n v (view c.draw_firing.new.desk) ms xs (length c.items-items.result.now) told.0 (ap length c.items-items.ensures.numbers) told.1 told.2 in
     let chain = subst (λ (q : ℕ). WereClaimed n p (view c.args.desk.now) o c.args.chord ms xs q v) all c.loop-at.invariant.3 in
     c.give_back_first-in-Err-draw_firing.ensures.missed o c.args.chord xs (view c.args.desk.now) v Spent c.requires.right.0 c.requires.right.1 chain m

@@ -67,7 +67,7 @@ returns-in-Some-clause-handed g s c ps o js f us held t1 =
       q ∷ h.0,
       subst (g.H.Receive.holds c.hand_out.new.hand) (append_assoc ps (q ∷ []) h.0) h.1,
       subst (λ (z : List ℕ × List ℕ). Handed g.P.Carry.entries g.P.Carry.arguments (λ z. g.P.Carry.keeps_to z (space_code c.args.space.now) (space_limits c.args.space.now)) p v (view c.hand_out.new.desk) o z.0 z.1 f us (q ∷ h.0)) (λ k. (sym m.2 k, sym split.0 k))
-          (handed_more g.P.Carry.entries g.P.Carry.arguments (λ z. g.P.Carry.keeps_to z (space_code c.args.space.now) (space_limits c.args.space.now)) p n v (view c.consume-parcel.new.desk) o m.0 m.1 i c.in-Some.rest.now f us q word t is (view c.hand_out.new.desk) h.0
+          (handed_more g.P.Carry.entries g.P.Carry.arguments (λ z. g.P.Carry.keeps_to z (space_code c.args.space.now) (space_limits c.args.space.now)) p n v (view c.consume-parcel.new.desk) o m.0 m.1 i c.in-Some.rest.now f us q word t is (view c.hand_out.new.desk) h.0 refl
           (e.parcel a.claim a.there a.numbered) (e.below a.claim f a.there a.numbered a.firing) e.task (e.comes a.claim a.there a.numbered) h.2),
     )
 

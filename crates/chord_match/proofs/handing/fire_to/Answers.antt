@@ -33,7 +33,7 @@ returns-in-Ok-clause-fired g c =
     (drawn_consuming n p v u o c.args.chord ms c.in-Ok.number t.1 (λ q l. (ready_at n v o s.methods ms c.args.nexts.now s.ready q l).below) c.args.desk.now.settled.7) in
     let h = c.hand_out.ensures.handed [] o t.1.methods c.in-Ok.number t.1.values c.requires.empty k in
     let handed = subst (λ (z : List ℕ). Handed g.P.Carry.entries g.P.Carry.arguments (λ z. g.P.Carry.keeps_to z (space_code c.args.space.now) (space_limits c.args.space.now)) p u w o t.1.methods z c.in-Ok.number t.1.values h.0) c.items.ensures.numbers h.2 in
-    (h.0, h.1, is_fired g.P.Carry.entries g.P.Carry.arguments (λ z. g.P.Carry.keeps_to z (space_code c.args.space.now) (space_limits c.args.space.now)) p n v u w o c.args.chord ms c.in-Ok.number h.0 t.1 t.0 handed)
+    (h.0, h.1, is_fired g.P.Carry.entries g.P.Carry.arguments (λ z. g.P.Carry.keeps_to z (space_code c.args.space.now) (space_limits c.args.space.now)) p n v u w o c.args.chord ms c.in-Ok.number h.0 t.1 t.2 t.0 handed)
 
 pub returns-in-Err-clause-missed : goal.returns-in-Err-clause-missed
 returns-in-Err-clause-missed g c = missed_all c.args.space.now.events (view c.args.desk.now) (view c.take_members.new.desk) c.args.members.now c.args.nexts.now c.in-Err.missed c.requires.free c.in-Err.ensures.taken

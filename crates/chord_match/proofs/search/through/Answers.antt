@@ -3,7 +3,8 @@ use Rattle.std.proofs.lemmas.List.{length-map}
 use Rattle.chord_code.specs.Headers.{LackHeader}
 use Rattle.chord_code.specs.Meaning.{methods_of}
 use Rattle.chord_space.specs.Desks.{view}
-use Rattle.chord_match.proofs.Chords.{chord_line_at, are_more, none_stuck, all_stuck}
+use Rattle.chord_match.proofs.Chords.{chord_line_at, are_more, none_stuck, all_stuck, beside_more}
+use Rattle.chord_match.proofs.Finds.{beside_none}
 use Rattle.chord_match.proofs.Knowing.{all_gathered}
 use Rattle.chord_match.proofs.search.through.Goals as goal
 
@@ -19,7 +20,7 @@ returns-in-All-clause-through g c v t =
     let here : slice_get (map methods_of c.args.lines.now) at ≡ Some js = chord_line_at c.args.lines.now at c.index-lines-at.result c.index-lines-at.is (omega (arith, most, other)) ∙ ap (λ (z : List ℕ). Some z) (ap methods_of c.index-lines-at.is ∙ sym c.items-methods.ensures.numbers) in
     let got = c.in-All.ensures.gathered v t in
     let all = all_gathered c.args.space.now.events v (view c.args.desk.now) (view c.gather_one.new.desk) c.args.object c.args.own.now js (replicate 16 None) got.0 c.args.members.now c.gather_one.new.members c.args.nexts.now c.gather_one.new.nexts c.requires.empty.0 c.requires.empty.1 got.1 in
-    (got.0, record { stands = got.1.moves.stands; verdict = (js, here, c.line_with-at.ensures.here js here, all.0, all.1) })
+    (got.0, record { stands = got.1.moves.stands; verdict = (js, here, c.line_with-at.ensures.here js here, all.0, all.1); beside = beside_more c.args.own.now (map methods_of c.args.lines.now) at js (replicate 16 None) got.0 here (c.line_with-at.ensures.here js here) (beside_none c.args.own.now (map methods_of c.args.lines.now)) got.1.learns })
 
 pub returns-in-Stuck-clause-through : goal.returns-in-Stuck-clause-through
 returns-in-Stuck-clause-through g c v t =
@@ -29,4 +30,4 @@ returns-in-Stuck-clause-through g c v t =
     let last = c.if-more-lines.false in let long = length-map c.args.lines.now methods_of in
     let off : LackHeader own.method jss (at + 1) (length jss) = λ q ks a b e. c.line_with-more.ensures.skipped q ks a (omega (arith, b, last, long)) e in
     let one = are_more own jss at js got.0 None c.in-Stuck.busy here (c.line_with-at.ensures.here js here) got.1.gathered (none_stuck own jss at got.0 c.line_with-at.ensures.skipped) in
-    (got.0, record { stands = got.1.moves.stands; verdict = all_stuck own jss (at + 1) (length jss) got.0 c.in-Stuck.busy (omega (arith, most, other, long)) off one })
+    (got.0, record { stands = got.1.moves.stands; verdict = all_stuck own jss (at + 1) (length jss) got.0 c.in-Stuck.busy (omega (arith, most, other, long)) off one; beside = beside_more own jss at js (replicate 16 None) got.0 here (c.line_with-at.ensures.here js here) (beside_none own jss) got.1.learns })

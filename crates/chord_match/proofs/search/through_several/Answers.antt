@@ -4,7 +4,8 @@ use Rattle.chord_space.specs.Desks.{view}
 use Rattle.chord_match.specs.declared.search.Step.{Step}
 use Rattle.chord_match.specs.Searching.{Gathered, AreStuck}
 use Rattle.chord_match.specs.Noting.{all_told}
-use Rattle.chord_match.proofs.Chords.{chord_line_at, all_lines, are_kept, are_more, none_stuck, all_stuck}
+use Rattle.chord_match.proofs.Chords.{chord_line_at, all_lines, are_kept, are_more, none_stuck, all_stuck, beside_more}
+use Rattle.chord_match.proofs.Finds.{beside_none}
 use Rattle.chord_match.proofs.Knowing.{all_gathered}
 use Rattle.chord_match.proofs.search.through_several.Goals as goal
 
@@ -14,7 +15,7 @@ loop-at-init g c = let most = c.requires.from.0 in (
   c.requires.desk,
   (refl, refl),
   (omega arith, most, c.requires.from.2),
-  (λ v t. (t, none_stuck c.args.own.now (map methods_of c.args.lines.now) c.args.from (replicate 16 None) c.requires.from.1)),
+  (λ v t. (t, none_stuck c.args.own.now (map methods_of c.args.lines.now) c.args.from (replicate 16 None) c.requires.from.1, beside_none c.args.own.now (map methods_of c.args.lines.now))),
 )
 
 pub loop-at-smaller : goal.loop-at-smaller
@@ -37,11 +38,11 @@ gather-requires-clause-searching g c = let s = c.requires.searching in (s.0, (c.
 
 pub returns-in-All-clause-through : goal.returns-in-All-clause-through
 returns-in-All-clause-through g c v t =
-    let i = c.loop-at.invariant in let s = (i.3 v t).0 in
+    let i = c.loop-at.invariant in let before = i.3 v t in let s = before.0 in
     let o = subst (λ (z : Step). Gathered c.args.space.now.events v (view c.loop-at.desk) (view c.gather.new.desk) c.args.object c.args.own.now c.items-methods.result.now (all_told c.loop-at.known) (all_told c.gather.new.known) c.clear.new.members c.gather.new.members c.clear-in-loop-at.new.self c.gather.new.nexts z) c.in-All.is (c.gather.ensures.gathered v s) in
     let here : slice_get (map methods_of c.args.lines.now) c.loop-at.at ≡ Some c.items-methods.result.now = chord_line_at c.args.lines.now c.loop-at.at c.index-lines-at.result c.index-lines-at.is c.loop-at-test.true ∙ ap (λ (z : List ℕ). Some z) (ap methods_of c.index-lines-at.is ∙ sym c.items-methods.ensures.numbers) in
     let all = all_gathered c.args.space.now.events v (view c.loop-at.desk) (view c.gather.new.desk) c.args.object c.args.own.now c.items-methods.result.now (all_told c.loop-at.known) (all_told c.gather.new.known) c.clear.new.members c.gather.new.members c.clear-in-loop-at.new.self c.gather.new.nexts c.clear.ensures c.clear-in-loop-at.ensures o in
-    (all_told c.gather.new.known, record { stands = o.moves.stands; verdict = (c.items-methods.result.now, here, i.2.2 c.items-methods.result.now here, all.0, all.1) })
+    (all_told c.gather.new.known, record { stands = o.moves.stands; verdict = (c.items-methods.result.now, here, i.2.2 c.items-methods.result.now here, all.0, all.1); beside = beside_more c.args.own.now (map methods_of c.args.lines.now) c.loop-at.at c.items-methods.result.now (all_told c.loop-at.known) (all_told c.gather.new.known) here (i.2.2 c.items-methods.result.now here) before.2 o.learns })
 
 pub line_behind-at-requires-clause-second : goal.line_behind-at-requires-clause-second
 line_behind-at-requires-clause-second g c =
@@ -62,10 +63,11 @@ loop-at-preserved g c =
             o.moves.stands,
             subst (λ (z : Option ℕ). AreStuck own jss c.line_behind-at.result (all_told c.gather.new.known) z) (sym c.first-busy.ensures)
                 (all_stuck own jss (c.loop-at.at + 1) c.line_behind-at.result (all_told c.gather.new.known) _ (omega (arith, behind)) c.line_behind-at.ensures.skipped more),
+            beside_more own jss c.loop-at.at c.items-methods.result.now (all_told c.loop-at.known) (all_told c.gather.new.known) here (i.2.2 c.items-methods.result.now here) s.2 o.learns,
           )),
     )
 
 pub returns-clause-through : goal.returns-clause-through
 returns-clause-through g c v t =
     let s = c.loop-at.invariant.3 v t in
-    (all_told c.loop-at.known, record { stands = s.0; verdict = all_lines c.args.own.now c.args.lines.now c.loop-at.at (all_told c.loop-at.known) c.loop-at.busy c.loop-at-test.false c.loop-at.invariant.2.1 s.1 })
+    (all_told c.loop-at.known, record { stands = s.0; verdict = all_lines c.args.own.now c.args.lines.now c.loop-at.at (all_told c.loop-at.known) c.loop-at.busy c.loop-at-test.false c.loop-at.invariant.2.1 s.1; beside = s.2 })
