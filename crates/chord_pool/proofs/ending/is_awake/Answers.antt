@@ -13,7 +13,7 @@ returns-in-Ready-clause-stirred g c = λ e.
     let look = c.look.ensures.seen in
     let ready : look.0.cell ≡ a_cell.Ready = sym look.1 ∙ c.in-Ready.is in
     ⊎_elim
-    (λ started. inl (c.args.i, plays_since g.G.Gate.knows c.args.worker.now c.look.new.self c.start.new.self c.args.i c.requires.idle look.2.kept (c.start.ensures.plays started)))
+    (λ started. inl (plays_since g.G.Gate.knows c.args.worker.now c.look.new.self c.start.new.self c.args.i c.requires.idle look.2.kept (c.start.ensures.plays started)))
     (λ refused.
     let r = c.start.ensures.refused refused in
     inr (
