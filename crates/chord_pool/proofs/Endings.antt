@@ -1,5 +1,5 @@
 -- What the first worker knows of the cells that it looked at, and when it may close.
-use Rattle.std.proofs.Common.{◌≡◌, ◌≢◌, ◌⊎◌, inl, inr, ⊎_elim, ℕ, ◌+◌, ◌<◌, ◌≤◌, true, false, List, [], Option, Some, None, is_some, min, refl, sym, ap, ◌∙◌, subst, arith}
+use Rattle.std.proofs.Common.{◌≡◌, ◌≢◌, ◌⊎◌, inl, inr, ⊎_elim, ℕ, ◌+◌, ◌<◌, ◌≤◌, true, false, [], Option, Some, None, is_some, min, refl, sym, ap, ◌∙◌, subst, arith}
 use Rattle.std.proofs.lemmas.Option.{none-some}
 use mathlib.Core.Logic.{dite}
 use mathlib.Core.Path.{Path}
@@ -25,7 +25,7 @@ use Rattle.chord_worker.specs.declared.worker.Worker.{Worker}
 use Rattle.chord_worker.specs.Resting.{IsSameRole, IsSeen, beside_task}
 use Rattle.chord_pool.specs.declared.ending.Alone.{Alone}
 use Rattle.chord_pool.specs.Players.{IsFit, IsSettled, IsUnready, IsCrew, LookedThrough}
-use Rattle.chord_pool.specs.Ending.{AreAwake, IsAlone, IsLast, IsRunOver, IsStirred, SawAsleep, HasGoneBack, HasLookedAlone}
+use Rattle.chord_pool.specs.Ending.{AreAwake, IsAlone, IsLast, IsRunOver, IsStirred, SawAsleep, HasLookedAlone}
 use Rattle.chord_pool.proofs.Looking.{plays_since, through_once, through_from}
 
 -- the role of a desk stays over two steps
@@ -72,7 +72,7 @@ task_started (Some t) e h = none-some _ (sym h)
 
 -- a worker without a task that is stirred after looks, in which its desk kept what it kept
 pub stirred_since : (knows : ℕ → Type 0) (i : ℕ) (u v w : Worker) → u.task ≡ None → (view v.desk).kept ≡ (view u.desk).kept → IsStirred knows i v w → IsStirred knows i u w
-stirred_since knows i u v w none same = ⊎_elim (λ plays. inl (plays_since knows u v w i none same plays)) (λ saw_it. inr ((saw_it.0.0, saw_it.0.1 ∙ same), saw_it.1))
+stirred_since knows i u v w none same = ⊎_elim (λ plays. inl (plays_since knows u v w i none same plays)) (λ saw_it. inr ((saw_it.0.0, saw_it.0.1 ∙ same), saw_it.1, saw_it.2))
 
 -- a turn of the first worker alone that looked, after it looked at the counter
 pub looked_since : (knows : ℕ → Type 0) (s : Space Parcel) (x y z : Alone) → x.worker.task ≡ None → y.place ≡ x.place → (view y.worker.desk).kept ≡ (view x.worker.desk).kept → (view y.worker.desk).looked.seen ≡ (view x.worker.desk).looked.seen → HasLookedAlone knows s y z → HasLookedAlone knows s x z

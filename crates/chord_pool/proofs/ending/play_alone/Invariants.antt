@@ -1,5 +1,4 @@
 -- The worker is alone, in the role that it had, and all that it did was turns.
-use Rattle.std.proofs.Common.{◌≡◌}
 use Rattle.chord_space.specs.Desks.{view}
 use Rattle.chord_worker.specs.Resting.{IsSameRole}
 use Rattle.chord_pool.specs.Ending.{IsAlone, HadTurns}

@@ -1,6 +1,5 @@
 use Rattle.chord_space.specs.Desks.{view}
 use Rattle.chord_pool.proofs.Crews.{crew_begins}
-use Rattle.chord_pool.proofs.Endings.{crew_is_alone, last_is_alone}
 use Rattle.chord_pool.proofs.pool.play_all.Goals as goal
 
 pub play_together-requires-clause-main : goal.play_together-requires-clause-main

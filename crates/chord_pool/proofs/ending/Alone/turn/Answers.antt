@@ -1,6 +1,6 @@
-use Rattle.std.proofs.Common.{ap, ◌∙◌, refl, rules}
+use Rattle.std.proofs.Common.{ap, refl, rules}
 use Rattle.chord_rule.specs.declared.view.View.{View}
-use Rattle.chord_pool.proofs.Endings.{looked_since, stays_alone}
+use Rattle.chord_pool.proofs.Endings.{looked_since}
 use Rattle.chord_pool.proofs.ending.Alone.turn.Goals as goal
 
 pub returns-clause-went : goal.returns-clause-went

@@ -1,4 +1,4 @@
-use Rattle.std.proofs.Common.{refl, rules, arith}
+use Rattle.std.proofs.Common.{rules, arith}
 use Rattle.chord_space.specs.Desks.{view}
 use Rattle.chord_pool.proofs.Endings.{role_stays}
 use Rattle.chord_pool.proofs.Rounds.{no_turns, one_turn_more}
