@@ -1,5 +1,5 @@
 -- What the first worker knows of the cells that it looked at, and when it may close.
-use Rattle.std.proofs.Common.{◌≡◌, ◌≢◌, ◌⊎◌, inl, inr, ⊎_elim, ℕ, ◌+◌, true, false, Option, Some, None, is_some, min, refl, sym, ap, ◌∙◌, subst, arith}
+use Rattle.std.proofs.Common.{◌≡◌, ◌≢◌, ◌⊎◌, inl, inr, ⊎_elim, ℕ, ◌+◌, ◌<◌, ◌≤◌, true, false, [], Option, Some, None, is_some, min, refl, sym, ap, ◌∙◌, subst, arith}
 use Rattle.std.proofs.lemmas.Option.{none-some}
 use mathlib.Core.Logic.{dite}
 use mathlib.Core.Path.{Path}
@@ -23,28 +23,36 @@ use Rattle.chord_word.specs.declared.cells.Cell.TheVariants.{Ready, Woken}
 use Rattle.chord_word.specs.declared.cells.Word.{Word}
 use Rattle.chord_worker.specs.declared.worker.Worker.{Worker}
 use Rattle.chord_worker.specs.Resting.{IsSameRole, IsSeen, beside_task}
-use Rattle.chord_pool.specs.Players.{IsFit, IsUnready}
-use Rattle.chord_pool.specs.Ending.{AreAwake, IsRunOver, IsStirred, SawAsleep}
-use Rattle.chord_pool.proofs.Looking.{started_since}
+use Rattle.chord_pool.specs.declared.ending.Alone.{Alone}
+use Rattle.chord_pool.specs.Players.{IsFit, IsSettled, IsUnready, IsCrew, LookedThrough}
+use Rattle.chord_pool.specs.Ending.{AreAwake, IsAlone, IsLast, IsRunOver, IsStirred, SawAsleep, HasLookedAlone}
+use Rattle.chord_pool.proofs.Looking.{plays_since, through_once, through_from}
 
 -- the role of a desk stays over two steps
 pub role_stays : (u v w : View) → IsSameRole u v → IsSameRole v w → IsSameRole u w
 role_stays u v w a b = record { first = b.first ∙ a.first; lent = b.lent ∙ a.lent; splits = b.splits ∙ a.splits; drawn = λ d. b.drawn (a.drawn d) }
 
 -- one more cell was looked at, and need not be looked after
-pub awake_more : (i : ℕ) (v w : View) (x : Word) → AreAwake i v.looked.seen → IsSeen v w i x → (IsAsleep x.cell → ⊥) → AreAwake (i + 1) w.looked.seen
-awake_more i v w x was look awake k low = dite (ℕ_discrete k i)
+pub awake_more : (from i : ℕ) (v w : View) (x : Word) → AreAwake from i v.looked.seen → IsSeen v w i x → (IsAsleep x.cell → ⊥) → AreAwake from (i + 1) w.looked.seen
+awake_more from i v w x was look awake k above low = dite (ℕ_discrete k i)
     (λ e. (x, subst (LastSeen k x) (sym look.seen) (inl (e, refl)), awake))
-    (λ ne. let r = was k (omega (arith, low, ne)) in (r.0, subst (LastSeen k r.0) (sym look.seen) (inr (ne, r.1)), r.2))
+    (λ ne. let r = was k above (omega (arith, low, ne)) in (r.0, subst (LastSeen k r.0) (sym look.seen) (inr (ne, r.1)), r.2))
+
+-- what nobody has to look after is not ready
+awake_unready : (c : Cell) → (IsAsleep c → ⊥) → c ≢ Ready
+awake_unready c awake ready = awake (subst IsAsleep (sym ready) tt)
+
+-- one look at a cell that need not be looked after
+pub through_awake : (v w : View) (i : ℕ) (x : Word) → IsSeen v w i x → (IsAsleep x.cell → ⊥) → LookedThrough i (i + 1) v w
+through_awake v w i x look awake = through_once v w i x (awake_unready x.cell awake) look.seen
 
 -- a look at a cell that somebody has to look after, and in which no firing is ready
-pub stirred_by_look : (v w : View) (i : ℕ) (x : Word) → IsSeen v w i x → IsAsleep x.cell → x.cell ≢ Ready → (k : ℕ) × SawAsleep k w.looked.seen × IsUnready k w.looked.seen
-stirred_by_look v w i x look asleep unready = (i, subst (SawAsleep i) (sym look.seen) (inl (refl, asleep)), (x, subst (LastSeen i x) (sym look.seen) (inl (refl, refl)), unready))
+pub stirred_by_look : (v w : View) (i : ℕ) (x : Word) → IsSeen v w i x → IsAsleep x.cell → x.cell ≢ Ready → SawAsleep i w.looked.seen × IsUnready i w.looked.seen
+stirred_by_look v w i x look asleep unready = (subst (SawAsleep i) (sym look.seen) (inl (refl, asleep)), (x, subst (LastSeen i x) (sym look.seen) (inl (refl, refl)), unready))
 
 -- a look at a firing that was ready, and then no longer, as its cell told
-pub stirred_by_start : (v u w : View) (i : ℕ) (x : Word) (c : Cell) (next : Option ℕ) → IsSeen v u i x → IsAsleep x.cell → c ≢ Ready → w ≡ saw u i (a_word c next) → (k : ℕ) × SawAsleep k w.looked.seen × IsUnready k w.looked.seen
+pub stirred_by_start : (v u w : View) (i : ℕ) (x : Word) (c : Cell) (next : Option ℕ) → IsSeen v u i x → IsAsleep x.cell → c ≢ Ready → w ≡ saw u i (a_word c next) → SawAsleep i w.looked.seen × IsUnready i w.looked.seen
 stirred_by_start v u w i x c next look asleep unready told = (
-  i,
   subst (λ (z : View). SawAsleep i z.looked.seen) (sym told) (inr (subst (SawAsleep i) (sym look.seen) (inl (refl, asleep)))),
   (a_word c next, subst (λ (z : View). LastSeen i (a_word c next) z.looked.seen) (sym told) (inl (refl, refl)), unready),
 )
@@ -63,12 +71,38 @@ task_started None e h = let z : false ≡ true = e in absurd (cc)
 task_started (Some t) e h = none-some _ (sym h)
 
 -- a worker without a task that is stirred after looks, in which its desk kept what it kept
-pub stirred_since : (knows : ℕ → Type 0) (u v w : Worker) → u.task ≡ None → (view v.desk).kept ≡ (view u.desk).kept → IsStirred knows v w → IsStirred knows u w
-stirred_since knows u v w none same = ⊎_elim (λ started. inl (started_since knows u v w none same started)) (λ saw_it. inr ((saw_it.0.0, saw_it.0.1 ∙ same), saw_it.1))
+pub stirred_since : (knows : ℕ → Type 0) (i : ℕ) (u v w : Worker) → u.task ≡ None → (view v.desk).kept ≡ (view u.desk).kept → IsStirred knows i v w → IsStirred knows i u w
+stirred_since knows i u v w none same = ⊎_elim (λ plays. inl (plays_since knows u v w i none same plays)) (λ saw_it. inr ((saw_it.0.0, saw_it.0.1 ∙ same), saw_it.1, saw_it.2))
+
+-- a turn of the first worker alone that looked, after it looked at the counter
+pub looked_since : (knows : ℕ → Type 0) (s : Space Parcel) (x y z : Alone) → x.worker.task ≡ None → y.place ≡ x.place → (view y.worker.desk).kept ≡ (view x.worker.desk).kept → (view y.worker.desk).looked.seen ≡ (view x.worker.desk).looked.seen → HasLookedAlone knows s y z → HasLookedAlone knows s x z
+looked_since knows s x y z none place kept seen = ⊎_elim
+    (λ on. inl (subst (λ (n : ℕ). n ≤ z.place) place on.0, stirred_since knows z.place x.worker y.worker z.worker none kept on.1))
+    (λ back. inr (record {
+      count = back.count;
+      counted = back.counted;
+      behind = subst (λ (n : ℕ). 0 < n) place back.behind;
+      place = back.place;
+      still = (back.still.0, back.still.1 ∙ kept);
+      awake = subst (λ (n : ℕ). AreAwake n (min back.count (events s)) (view z.worker.desk).looked.seen) place back.awake;
+      through = subst (λ (n : ℕ). LookedThrough n (min back.count (events s)) (view x.worker.desk) (view z.worker.desk)) place (through_from (view x.worker.desk) (view y.worker.desk) (view z.worker.desk) y.place (min back.count (events s)) seen back.through);
+    }))
+
+-- the first worker, alone, with nothing to play
+pub last_is_alone : (s : Space Parcel) (w : Worker) → IsLast s w → IsAlone s w
+last_is_alone s w last = record { settled = record { rest = last.rest; over = λ _. last.task }; first = last.first; drawn = last.drawn; lent = last.lent }
+
+-- the first worker that has hired nobody is alone
+pub crew_is_alone : (s : Space Parcel) (w : Worker) → IsCrew s w [] → IsAlone s w
+crew_is_alone s w crew = record { settled = crew.settled; first = crew.first; drawn = crew.drawn; lent = crew.lent }
+
+-- it is so still, in the role that it had
+pub stays_alone : (s : Space Parcel) (v w : Worker) → IsAlone s v → IsSettled s w → IsSameRole (view v.desk) (view w.desk) → IsAlone s w
+stays_alone s v w was settled role = record { settled = settled; first = role.first ∙ was.first; drawn = role.drawn was.drawn; lent = role.lent ∙ was.lent }
 
 -- the first worker, alone and with nothing to play, may close where it looked at the counter, which is below the limit, and at each cell below
 pub may_close : (s : Space Parcel) (w : Worker) (n c count : ℕ) → IsFit s w → (view w.desk).first ≡ true → (view w.desk).drawn ≡ true → (view w.desk).lent ≡ 0
-    → (view w.desk).looked.count ≡ Some c → count ≡ min c n → count ≢ n → AreAwake count (view w.desk).looked.seen → MayClose (view w.desk)
+    → (view w.desk).looked.count ≡ Some c → count ≡ min c n → count ≢ n → AreAwake 0 count (view w.desk).looked.seen → MayClose (view w.desk)
 may_close s w n c count fit first drawn lent counted least below awake = record {
   first = first;
   begun = drawn;
@@ -78,7 +112,7 @@ may_close s w n c count fit first drawn lent counted least below awake = record 
   in_hand = λ i. ⊎_elim (λ h. subst (HasNumber i) fit.rest.free.fresh h) (⊎_elim (λ h. not_some i (sym w.desk.settled.3 ∙ h)) (λ h. not_some i (sym fit.rest.free.flight ∙ h)));
   count = c;
   counted = counted;
-  seen = λ i l. awake i (omega (arith, l, least, below));
+  seen = λ i l. awake i (omega arith) (omega (arith, l, least, below));
 }
   where
     not_some : (i : ℕ) → Path (Option ℕ) None (Some i) → ⊥

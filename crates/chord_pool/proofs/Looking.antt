@@ -110,6 +110,10 @@ among_all : (from i below : ℕ) (looks : List Look) → i ≤ max from below �
 among_all from i below [] within was = tt
 among_all from i below (l ∷ ls) within was = (was.0, (let above = was.0 in let under = was.1 in omega (arith, within, above, under)), among_all from i below ls within was.2)
 
+-- numbers were looked at after something that was no look at a cell
+pub through_from : (u v w : View) (from below : ℕ) → v.looked.seen ≡ u.looked.seen → LookedThrough from below v w → LookedThrough from below u w
+through_from u v w from below same was = record { looks = was.looks; seen = was.seen ∙ ap (λ l. was.looks ++ l) same; among = was.among; in_vain = was.in_vain; ready = was.ready }
+
 -- numbers in a row were looked at, and then one more
 pub through_more : (u v w : View) (from i : ℕ) → from ≤ i → LookedThrough from i u v → LookedThrough i (i + 1) v w → LookedThrough from (i + 1) u w
 through_more u v w from i low was one = record {

@@ -7,7 +7,8 @@ use Rattle.chord_worker.specs.declared.worker.Worker.{Worker}
 use Rattle.chord_worker.specs.Stepping.{StillPlays}
 use Rattle.chord_pool.specs.declared.player.Player.{Player}
 use Rattle.chord_pool.specs.Players.{HadARound, StandsStill, IsBetweenRounds, AreRounds, HadRounds, HasLeftOff, HaveAllLeftOff}
-use Rattle.chord_pool.specs.Ending.{HadATurn, HadTurns}
+use Rattle.chord_pool.specs.declared.ending.Alone.{Alone}
+use Rattle.chord_pool.specs.Ending.{HadATurn, AreTurns, HadTurns, HasLeftOffAlone}
 
 -- a player stands where it stood, twice
 stands_on : (x y z : Player) → StandsStill x y → StandsStill y z → StandsStill x z
@@ -66,10 +67,23 @@ left_off_more knows s (u ∷ xs) (v ∷ ys) x y all one = (all.0, left_off_more 
 pub left_off_none : (knows : ℕ → Type 0) (s : Space Parcel) (xs ys : List Player) → xs ≡ [] → ys ≡ [] → HaveAllLeftOff knows s xs ys
 left_off_none knows s xs ys none none_either = subst (λ (l : List Player). HaveAllLeftOff knows s l ys) (sym none) (subst (HaveAllLeftOff knows s []) (sym none_either) tt)
 
--- a worker that has had no turn yet
-pub no_turns : (knows : ℕ → Type 0) (w : Worker) → HadTurns knows w w
-no_turns knows w = record { before_each = []; turns = refl }
+-- turns behind others
+turns_behind : (knows : ℕ → Type 0) (s : Space Parcel) (x y z : Alone) (ys zs : List Alone) → AreTurns knows s x ys y → AreTurns knows s y zs z → AreTurns knows s x (zs ++ ys) z
+turns_behind knows s x y z ys [] before same = subst (λ (a : Alone). AreTurns knows s x ys a) same before
+turns_behind knows s x y z ys (u ∷ us) before after = (turns_behind knows s x y u ys us before after.0, after.1)
 
--- and one that has had one more
-pub one_turn_more : (knows : ℕ → Type 0) (u v w : Worker) → HadTurns knows u v → HadATurn knows v w → HadTurns knows u w
-one_turn_more knows u v w had one = record { before_each = v ∷ had.before_each; turns = (had.turns, one) }
+-- the first worker alone has had no turn yet
+pub no_turns : (knows : ℕ → Type 0) (s : Space Parcel) (x : Alone) → HadTurns knows s x x
+no_turns knows s x = record { before_each = []; turns = refl }
+
+-- and one more
+pub one_turn_more : (knows : ℕ → Type 0) (s : Space Parcel) (x y z : Alone) → HadTurns knows s x y → HadATurn knows s y z → HadTurns knows s x z
+one_turn_more knows s x y z had one = record { before_each = y ∷ had.before_each; turns = (had.turns, one) }
+
+-- and several more
+pub more_turns : (knows : ℕ → Type 0) (s : Space Parcel) (x y z : Alone) → HadTurns knows s x y → HadTurns knows s y z → HadTurns knows s x z
+more_turns knows s x y z had later = record { before_each = later.before_each ++ had.before_each; turns = turns_behind knows s x y z had.before_each later.before_each had.turns later.turns }
+
+-- turns, and then more of them, after which it left off
+pub left_off_alone : (knows : ℕ → Type 0) (s : Space Parcel) (x y : Alone) (w : Worker) → HadTurns knows s x y → HasLeftOffAlone knows s y w → HasLeftOffAlone knows s x w
+left_off_alone knows s x y w had later = record { last = later.last; had = more_turns knows s x y later.last had later.had; off = later.off }

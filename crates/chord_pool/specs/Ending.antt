@@ -1,5 +1,5 @@
 -- When the first worker may close the table.
-use Rattle.std.specs.Prelude.{◌≡◌, ◌<◌, ◌⊎◌, ℕ, true, false, List, [], ◌∷◌, Some, None, min}
+use Rattle.std.specs.Prelude.{◌≡◌, ◌<◌, ◌≤◌, ◌⊎◌, ℕ, true, false, List, [], ◌∷◌, Some, None, min}
 use Rattle.chord_rule.specs.declared.view.Look.{Look}
 use Rattle.chord_rule.specs.declared.view.View.{View}
 use Rattle.chord_rule.specs.Closing.{IsAsleep, MayClose}
@@ -11,47 +11,70 @@ use Rattle.chord_task.specs.declared.task.Task.{Task}
 use Rattle.chord_word.specs.declared.cells.Word.{Word}
 use Rattle.chord_worker.specs.declared.worker.Worker.{Worker}
 use Rattle.chord_worker.specs.Resting.{IsAtRest}
-use Rattle.chord_worker.specs.Stepping.{HasGoneOn, PlaysNext, StillPlays}
-use Rattle.chord_pool.specs.Players.{HasStarted, IsUnready}
+use Rattle.chord_worker.specs.Stepping.{HasGoneOn, PlaysNext, PlaysFiring, StillPlays}
+use Rattle.chord_pool.specs.declared.ending.Alone.{Alone}
+use Rattle.chord_pool.specs.Players.{IsSettled, IsUnready, LookedThrough}
 
--- each cell below the count was looked at, and was last neither woken nor ready
-abbrev pub AreAwake : ℕ → List Look → Type 0
-AreAwake count looks = (i : ℕ) → i < count → (x : Word) × LastSeen i x looks × (IsAsleep x.cell → ⊥)
+-- each cell from `from` up to below `below` was looked at, and was last neither woken nor ready
+abbrev pub AreAwake : (from below : ℕ) → List Look → Type 0
+AreAwake from below looks = (i : ℕ) → from ≤ i → i < below → (x : Word) × LastSeen i x looks × (IsAsleep x.cell → ⊥)
 
 -- one of these looks saw the cell i asleep
 abbrev pub SawAsleep : ℕ → List Look → Type 0
 SawAsleep i [] = ⊥
 SawAsleep i (l ∷ ls) = ((i ≡ l.number) × IsAsleep l.word.cell) ⊎ SawAsleep i ls
 
--- the worker, which had no task, has started a firing, or has none and keeps what it kept, and saw a cell that somebody has to look after, and no firing that is ready is left there
-abbrev pub IsStirred : (ℕ → Type 0) → Worker → Worker → Type 0
-IsStirred knows v w = HasStarted knows v w ⊎ (StillPlays (view v.desk).kept None w × ((i : ℕ) × SawAsleep i (view w.desk).looked.seen × IsUnready i (view w.desk).looked.seen))
+-- the worker, which had no task, plays the firing i, of which the gate knows, or has none and keeps what it kept, and saw that somebody has to look after the cell i, in which no firing is ready any more
+abbrev pub IsStirred : (ℕ → Type 0) → ℕ → Worker → Worker → Type 0
+IsStirred knows i v w = PlaysFiring knows (view v.desk).kept v.task w i ⊎ (StillPlays (view v.desk).kept None w × SawAsleep i (view w.desk).looked.seen × IsUnready i (view w.desk).looked.seen)
 
--- the first worker, alone, went on with its task, and plays no other one but a body of which the gate knows, or it looked at the cells and has cause to go on
-pub record HadATurn (knows : ℕ → Type 0) (v w : Worker) : Type 0 where
-  pub went : (t : Task) → v.task ≡ Some t → HasGoneOn (view v.desk).kept t w
-  pub plays : (t : Task) → v.task ≡ Some t → PlaysNext knows (view v.desk).kept t w
-  pub stirred : v.task ≡ None → IsStirred knows v w
+-- the first worker, which had no task, has none and keeps what it kept: it looked at the numbers from its place up to those that are given and at no other ones, once each, nobody has to look after any of them, and it goes on at the first number, where it did not begin
+pub record HasGoneBack (s : Space Parcel) (x y : Alone) : Type 0 where
+  pub count : ℕ
+  pub counted : (view y.worker.desk).looked.count ≡ Some count
+  pub behind : 0 < x.place
+  pub place : y.place ≡ 0
+  pub still : StillPlays (view x.worker.desk).kept None y.worker
+  pub awake : AreAwake x.place (min count (events s)) (view y.worker.desk).looked.seen
+  pub through : LookedThrough x.place (min count (events s)) (view x.worker.desk) (view y.worker.desk)
 
--- turns lead from v to w, and these are the workers before each of them, the newest first
-abbrev pub AreTurns : (ℕ → Type 0) → Worker → List Worker → Worker → Type 0
-AreTurns knows v [] w = v ≡ w
-AreTurns knows v (u ∷ us) w = AreTurns knows v us u × HadATurn knows u w
+-- the first worker, which had no task, has come from its place on to a cell that somebody had to look after, or went back to the first number
+abbrev pub HasLookedAlone : (ℕ → Type 0) → Space Parcel → Alone → Alone → Type 0
+HasLookedAlone knows s x y = ((x.place ≤ y.place) × IsStirred knows y.place x.worker y.worker) ⊎ HasGoneBack s x y
 
--- all that the worker did was turns
-pub record HadTurns (knows : ℕ → Type 0) (v w : Worker) : Type 0 where
-  pub before_each : List Worker
-  pub turns : AreTurns knows v before_each w
+-- the first worker, alone, went on with its task, plays no other one but a body of which the gate knows, and stands where it stood, or it looked for a firing
+pub record HadATurn (knows : ℕ → Type 0) (s : Space Parcel) (x y : Alone) : Type 0 where
+  pub went : (t : Task) → x.worker.task ≡ Some t → HasGoneOn (view x.worker.desk).kept t y.worker
+  pub plays : (t : Task) → x.worker.task ≡ Some t → PlaysNext knows (view x.worker.desk).kept t y.worker
+  pub stands : (t : Task) → x.worker.task ≡ Some t → y.place ≡ x.place
+  pub looked : x.worker.task ≡ None → HasLookedAlone knows s x y
 
--- the worker had turns and left off: it plays what it played after them, and keeps what it kept
-pub record HasLeftOffAlone (knows : ℕ → Type 0) (v w : Worker) : Type 0 where
-  pub last : Worker
-  pub had : HadTurns knows v last
-  pub off : StillPlays (view last.desk).kept last.task w
+-- turns lead from x to y, and these are the workers before each of them, the newest first
+abbrev pub AreTurns : (ℕ → Type 0) → Space Parcel → Alone → List Alone → Alone → Type 0
+AreTurns knows s x [] y = x ≡ y
+AreTurns knows s x (z ∷ zs) y = AreTurns knows s x zs z × HadATurn knows s z y
+
+-- all that the first worker did was turns
+pub record HadTurns (knows : ℕ → Type 0) (s : Space Parcel) (x y : Alone) : Type 0 where
+  pub before_each : List Alone
+  pub turns : AreTurns knows s x before_each y
+
+-- the first worker had turns and left off: it plays what it played after them, and keeps what it kept
+pub record HasLeftOffAlone (knows : ℕ → Type 0) (s : Space Parcel) (x : Alone) (w : Worker) : Type 0 where
+  pub last : Alone
+  pub had : HadTurns knows s x last
+  pub off : StillPlays (view last.worker.desk).kept last.worker.task w
 
 -- the worker looked at the counter, which had reached the limit
 abbrev pub SawLimit : ℕ → View → Type 0
 SawLimit n v = (c : ℕ) × (v.looked.count ≡ Some c) × (min c n ≡ n)
+
+-- the first worker is alone and at rest, and has nothing to play where it was told that the limit is reached
+pub record IsAlone (s : Space Parcel) (w : Worker) : Type 0 where
+  pub settled : IsSettled s w
+  pub first : (view w.desk).first ≡ true
+  pub drawn : (view w.desk).drawn ≡ true
+  pub lent : (view w.desk).lent ≡ 0
 
 -- the first worker is alone and at rest, with nothing to play
 pub record IsLast (s : Space Parcel) (w : Worker) : Type 0 where

@@ -72,7 +72,7 @@ fn play_together<'a, R: Threads + Wait + Sync, G: Gate + Sync>(
     Ok(last)
 }
 
-/// All workers play, until the first one is alone and the run is over.
+/// All workers play, until the first one, alone at last, has played what is left.
 fn play_all<'a, R: Threads + Wait + Sync, G: Gate + Sync>(
     rt: &R,
     alloc: Global,
@@ -89,7 +89,13 @@ fn play_all<'a, R: Threads + Wait + Sync, G: Gate + Sync>(
     ensures told { IfOk result (λ _. G.knows 0) }
 {
     let main = Worker::main(alloc, run.space, run.code, run.limits, desk)?;
-    let last = play_together(rt, alloc, run, main, workers, gate)?;
+    // One that hires nobody is alone from the beginning: it needs no thread, and looks for nothing that others might have posted.
+    let last = if workers == 1 {
+        gate.started(0);
+        main
+    } else {
+        play_together(rt, alloc, run, main, workers, gate)?
+    };
     let last = play_alone(rt, alloc, run, last, gate)?;
     Ok(last)
 }

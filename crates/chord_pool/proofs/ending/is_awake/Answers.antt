@@ -13,13 +13,11 @@ returns-in-Ready-clause-stirred g c = λ e.
     let look = c.look.ensures.seen in
     let ready : look.0.cell ≡ a_cell.Ready = sym look.1 ∙ c.in-Ready.is in
     ⊎_elim
-    (λ started. inl (c.args.i, plays_since g.G.Gate.knows c.args.worker.now c.look.new.self c.start.new.self c.args.i c.requires.idle look.2.kept (c.start.ensures.plays started)))
+    (λ started. inl (plays_since g.G.Gate.knows c.args.worker.now c.look.new.self c.start.new.self c.args.i c.requires.idle look.2.kept (c.start.ensures.plays started)))
     (λ refused.
     let r = c.start.ensures.refused refused in
-    inr (
-      (none_there c.start.new.self.task (sym c.start.ensures.task ∙ refused), ap (λ (v : View). v.kept) r.3 ∙ look.2.kept),
-      stirred_by_start (view c.args.worker.now.desk) (view c.look.new.self.desk) (view c.start.new.self.desk) c.args.i look.0 r.0 r.1 look.2 (subst IsAsleep (sym ready) tt) r.2 r.3,
-    ))
+    let stirred = stirred_by_start (view c.args.worker.now.desk) (view c.look.new.self.desk) (view c.start.new.self.desk) c.args.i look.0 r.0 r.1 look.2 (subst IsAsleep (sym ready) tt) r.2 r.3 in
+    inr ((none_there c.start.new.self.task (sym c.start.ensures.task ∙ refused), ap (λ (v : View). v.kept) r.3 ∙ look.2.kept), stirred.0, stirred.1))
     (either c.start.result)
 
 pub returns-in-Ready-clause-started : goal.returns-in-Ready-clause-started
@@ -35,7 +33,5 @@ pub returns-in-Woken-clause-stirred : goal.returns-in-Woken-clause-stirred
 returns-in-Woken-clause-stirred g c = λ e.
     let look = c.look.ensures.seen in
     let woken : look.0.cell ≡ a_cell.Woken c.in-Woken.field-0 = sym look.1 ∙ c.in-Woken.is in
-    inr (
-      (c.look.ensures.rest.1, look.2.kept),
-      stirred_by_look (view c.args.worker.now.desk) (view c.look.new.self.desk) c.args.i look.0 look.2 (subst IsAsleep (sym woken) tt) (woken_unready look.0.cell c.in-Woken.field-0 woken),
-    )
+    let stirred = stirred_by_look (view c.args.worker.now.desk) (view c.look.new.self.desk) c.args.i look.0 look.2 (subst IsAsleep (sym woken) tt) (woken_unready look.0.cell c.in-Woken.field-0 woken) in
+    inr ((c.look.ensures.rest.1, look.2.kept), stirred.0, stirred.1)

@@ -1,12 +1,25 @@
-use Rattle.std.proofs.Common.{rules}
-use Rattle.chord_pool.proofs.Rounds.{no_turns, one_turn_more}
+use Rattle.std.proofs.Common.{refl, rules}
+use Rattle.chord_space.specs.Desks.{view}
+use Rattle.chord_pool.proofs.Endings.{role_stays}
+use Rattle.chord_pool.proofs.Rounds.{no_turns, more_turns, left_off_alone}
 use Rattle.chord_pool.proofs.ending.play_alone.Goals as goal
 
 pub loop-init : goal.loop-init
-loop-init g c = (search rules, search rules, search rules, search rules, search rules, search rules, search rules, no_turns g.G.Gate.knows c.args.worker)
+loop-init g c = (search rules, search rules, search rules, search rules, no_turns g.G.Gate.knows c.args.run.now.space.now _)
 
 pub loop-preserved : goal.loop-preserved
-loop-preserved g c = (search rules, search rules, search rules, search rules, search rules, search rules, search rules, one_turn_more g.G.Gate.knows c.args.worker c.loop.worker c.turn.new.worker c.loop.invariant.7 (c.in_ok-turn.ensures.went c.if-branch.false))
+loop-preserved g c = (
+  tt,
+  tt,
+  c.in_ok-turns.ensures.worker,
+  role_stays (view c.args.worker.desk) (view c.loop.alone.worker.desk) (view c.turns.new.self.worker.desk) c.loop.invariant.3 c.in_ok-turns.ensures.role,
+  more_turns g.G.Gate.knows c.args.run.now.space.now _ c.loop.alone c.turns.new.self c.loop.invariant.4 (c.in_ok-turns.ensures.had c.if-branch.false),
+)
 
 pub returns-then-branch-clause-off : goal.returns-then-branch-clause-off
-returns-then-branch-clause-off g c = record { last = c.loop.worker; had = c.loop.invariant.7; off = c.in_ok-turn.ensures.off c.if-branch.true }
+returns-then-branch-clause-off g c = (
+  record { worker = c.args.worker; place = 0 },
+  refl,
+  refl,
+  left_off_alone g.G.Gate.knows c.args.run.now.space.now _ c.loop.alone c.turns.new.self.worker c.loop.invariant.4 (c.in_ok-turns.ensures.off c.if-branch.true),
+)
