@@ -18,4 +18,4 @@ returns-in-Some c =
     let ns' = stacked_by c.note_on.new.objects.items i in
     ap (λ newest. first_comes newest i ns') c.replace.ensures.after
     ∙ noted_before c.args.self.now.last c.args.noted c.in-Some.before i ns ns' (sym c.replace.ensures.value ∙ c.in-Some.is) (q i))
-    c.note_on.ensures
+    c.note_on.ensures.pushed
