@@ -1,7 +1,7 @@
 -- The bag: the numbers of the messages that no firing has taken, by what they are to.
 --
 -- A bag lists the pending messages to each method of each object, newest first. What they carry stays with the bodies.
-use Rattle.std.specs.Prelude.{◌≡◌, ℕ, zero, suc, ◌<◌, ◌==◌, ◌&&◌, Bool, true, false, List, [], ◌∷◌, reverse, Option, Some, None, slice_get, if◌then◌else◌}
+use Rattle.std.specs.Prelude.{◌≡◌, ℕ, zero, suc, ◌+◌, ◌<◌, ◌==◌, ◌&&◌, Bool, true, false, List, [], ◌∷◌, length, reverse, Option, Some, None, slice_get, if◌then◌else◌}
 use Rattle.std.specs.Global.{Vec}
 use Rattle.chord_base.specs.declared.value.Object.{Object}
 use Rattle.chord_base.specs.Messages.{Message, has}
@@ -57,6 +57,11 @@ pub record IsFirstOf (c : ℕ) (xs : List ClassStacks) (i : ℕ) : Type 0 where
   pub is : slice_get xs i ≡ Some stacks
   pub of_class : stacks.class ≡ c
   pub lacks : LacksBefore c xs i
+
+-- stacks of the class came last where there were none, and else there are as many as before
+pub record AddsClass (c : ℕ) (before after : List ClassStacks) : Type 0 where
+  pub there : (i : ℕ) → IsFirstOf c before i → length after ≡ length before
+  pub first : LacksBefore c before (length before) → length after ≡ length before + 1
 
 -- the numbers on the stack of this address, newest first
 abbrev pub stacked_by : List (Vec ClassStacks) → Address → List ℕ

@@ -1,9 +1,9 @@
 //! The bag: the numbers of the messages that no firing has taken, by what they are to.
 #![tactic(auto)]
 
-ghost use Rattle.std.specs.Prelude.{◌≡◌, ◌≢◌, Some, None, ℕ, ◌+◌, ◌≤◌, ◌==◌, ◌&&◌, max, List, [], ◌∷◌, length, reverse, vec_len, IfNone, IfSome, OnOk, true, false, if◌then◌else◌};
+ghost use Rattle.std.specs.Prelude.{◌≡◌, ◌≢◌, Some, None, ℕ, ◌+◌, ◌≤◌, ◌==◌, ◌&&◌, max, List, [], ◌∷◌, length, reverse, vec_len, IfNone, IfSome, IsOk, OnOk, true, false, if◌then◌else◌};
 ghost use Rattle.chord_base.specs.Messages.{AreDifferent};
-ghost use Rattle.chord_lists.specs.Bag.{Address, ArePopped, HasMessage, HasMessages, IsFirstOf, IsPopped, IsPushed, LacksAMessage, LacksBefore, LacksMessage, address_to, items_at, is_apart, numbers_in, numbers_of, older_of, stacked_at, stacked_by};
+ghost use Rattle.chord_lists.specs.Bag.{Address, AddsClass, ArePopped, HasMessage, HasMessages, IsFirstOf, IsPopped, IsPushed, LacksAMessage, LacksBefore, LacksMessage, address_to, items_at, is_apart, numbers_in, numbers_of, older_of, stacked_at, stacked_by};
 ghost use Rattle.chord_lists.specs.declared.bag.Noted.{Noted as ANoted};
 
 use chord_base::members::Members;
@@ -61,7 +61,8 @@ fn push_on(
     method: u8,
     number: u16,
 ) -> Result<(), AllocError>
-    ensures { OnOk result ((j : ℕ) → stacked_at stacks.new.items j ≡ (if method == j then number ∷ stacked_at stacks.old.items j else stacked_at stacks.old.items j)) }
+    ensures pushed { OnOk result ((j : ℕ) → stacked_at stacks.new.items j ≡ (if method == j then number ∷ stacked_at stacks.old.items j else stacked_at stacks.old.items j)) }
+    ensures long { OnOk result (vec_len stacks.new ≡ max (vec_len stacks.old) (method + 1)) }
 {
     let place = method as usize;
     lengthen(alloc, stacks, place + 1)?;
@@ -115,7 +116,8 @@ fn note_in(
     method: u8,
     number: u16,
 ) -> Result<(), AllocError>
-    ensures { OnOk result ((c j : ℕ) → numbers_in classes.new.items c j ≡ (if (class == c) && (method == j) then number ∷ numbers_in classes.old.items c j else numbers_in classes.old.items c j)) }
+    ensures pushed { OnOk result ((c j : ℕ) → numbers_in classes.new.items c j ≡ (if (class == c) && (method == j) then number ∷ numbers_in classes.old.items c j else numbers_in classes.old.items c j)) }
+    ensures long { OnOk result (AddsClass class classes.old.items classes.new.items) }
 {
     match place_of(classes, class) {
         Some(i) => push_on(alloc, &mut classes[i].stacks, method, number),
@@ -147,7 +149,8 @@ fn note_on(
     objects: &mut Vec<Vec<ClassStacks>>,
     noted: &Noted,
 ) -> Result<(), AllocError>
-    ensures { OnOk result (IsPushed (address_to noted.now.object noted.now.method) noted.now.number (stacked_by objects.old.items) (stacked_by objects.new.items)) }
+    ensures pushed { OnOk result (IsPushed (address_to noted.now.object noted.now.method) noted.now.number (stacked_by objects.old.items) (stacked_by objects.new.items)) }
+    ensures long { OnOk result (vec_len objects.new ≡ max (vec_len objects.old) (noted.now.object.number + 1)) }
 {
     let place = noted.object.number as usize;
     lengthen(alloc, objects, place + 1)?;
@@ -206,9 +209,12 @@ fn take_newest(newest: &mut Option<Noted>) -> u16
 }
 
 impl Older {
-    /// Notes a message that was the newest.
+    /// Notes a message that was the newest. Takes no memory where none stood apart.
     fn note(&mut self, alloc: Global, noted: Noted) -> Result<(), AllocError>
-        ensures { OnOk result (IsPushed (address_to noted.object noted.method) noted.number (older_of self.old) (older_of self.new)) }
+        ensures pushed { OnOk result (IsPushed (address_to noted.object noted.method) noted.number (older_of self.old) (older_of self.new)) }
+        ensures apart { self.new.last ≡ Some noted }
+        ensures first { self.old.last ≡ None → (self.new.objects ≡ self.old.objects) × IsOk result }
+        ensures long { (before : ANoted) → self.old.last ≡ Some before → OnOk result (vec_len self.new.objects ≡ max (vec_len self.old.objects) (before.object.number + 1)) }
     {
         match mem::replace(&mut self.last, Some(noted)) {
             None => Ok(()),
@@ -253,7 +259,7 @@ impl Bag {
         }
     }
 
-    /// Notes the message of this number, which is to this method of this object.
+    /// Notes the message of this number, which is to this method of this object. Takes no memory unless two stood apart.
     pub fn note(
         &mut self,
         alloc: Global,
@@ -261,7 +267,12 @@ impl Bag {
         method: u8,
         number: u16,
     ) -> Result<(), AllocError>
-        ensures { OnOk result (IsPushed (address_to object method) number (numbers_of self.old) (numbers_of self.new)) }
+        ensures pushed { OnOk result (IsPushed (address_to object method) number (numbers_of self.old) (numbers_of self.new)) }
+        ensures apart { self.new.newest ≡ Some (record { object = object; method = method; number = number }) }
+        ensures first { self.old.newest ≡ None → (self.new.older ≡ self.old.older) × IsOk result }
+        ensures second { self.old.older.last ≡ None → (self.new.older.objects ≡ self.old.older.objects) × IsOk result }
+        ensures next { (before : ANoted) → self.old.newest ≡ Some before → self.new.older.last ≡ Some before }
+        ensures long { (last before : ANoted) → self.old.newest ≡ Some last → self.old.older.last ≡ Some before → OnOk result (vec_len self.new.older.objects ≡ max (vec_len self.old.older.objects) (before.object.number + 1)) }
     {
         let noted = Noted {
             object,

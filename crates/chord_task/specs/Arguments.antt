@@ -47,15 +47,15 @@ HasOneAtMost ([] ∷ rest) = HasOneAtMost rest
 HasOneAtMost ((x ∷ xs) ∷ rest) = laid rest ≡ []
 
 -- a number or an object
-abbrev pub IsWord : Value → Type 0
-IsWord a_value.Unit = ⊥
-IsWord (a_value.Int i) = Unit {0}
-IsWord (a_value.Flag b) = ⊥
-IsWord (a_value.Text bytes) = ⊥
-IsWord (a_value.Ref o) = Unit {0}
+abbrev pub IsLone : Value → Type 0
+IsLone a_value.Unit = ⊥
+IsLone (a_value.Int i) = Unit {0}
+IsLone (a_value.Flag b) = ⊥
+IsLone (a_value.Text bytes) = ⊥
+IsLone (a_value.Ref o) = Unit {0}
 
 -- these arguments take no memory on their way: there is none, or a number or an object alone
 abbrev pub AreInPlace : List Value → Type 0
 AreInPlace [] = Unit {0}
-AreInPlace (v ∷ []) = IsWord v
+AreInPlace (v ∷ []) = IsLone v
 AreInPlace (v ∷ w ∷ vs) = ⊥

@@ -8,7 +8,7 @@ ghost use Rattle.chord_base.specs.Printed.{is_end};
 ghost use Rattle.chord_code.specs.declared.parts.Parts.{Parts};
 ghost use Rattle.chord_code.specs.Meaning.{code_program, chord_lines};
 ghost use Rattle.chord_vm.specs.declared.frames.Frames.{Frames as TheFrames};
-ghost use Rattle.chord_vm.specs.Frames.{IsShort, laid, what_of_ask};
+ghost use Rattle.chord_vm.specs.Frames.{IsCopiedInPlace, laid, what_of_ask};
 ghost use Rattle.chord_task.specs.declared.body.Body.{Body as ABody};
 ghost use Rattle.chord_task.specs.Arguments.{for_entry, AreTwice, MayBeList, IsList, HasOneAtMost};
 ghost use Rattle.chord_task.specs.Past.{AddsOne};
@@ -589,7 +589,7 @@ impl Task {
         ensures listed { OnOk result (AddsOne self.old.past self.new.past list.old.items list.new.items) }
         ensures ended { self.new.ended ≡ self.old.ended }
         ensures values { self.new.values ≡ self.old.values }
-        ensures short { All IsShort values.old → IsOk result }
+        ensures short { All IsCopiedInPlace values.old → IsOk result }
     {
         let depth = depth_over(self.limits.depth, &self.top);
         let block = line_of(code, object.class, chord).block;

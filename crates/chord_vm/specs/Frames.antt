@@ -104,12 +104,12 @@ laid [] = []
 laid (xs ∷ rest) = xs ++ laid rest
 
 -- a copy of the value takes no memory: it is no text, or one of at most eight bytes
-abbrev pub IsShort : Value → Type 0
-IsShort a_value.Unit = Unit {0}
-IsShort (a_value.Int i) = Unit {0}
-IsShort (a_value.Flag b) = Unit {0}
-IsShort (a_value.Text bytes) = length bytes ≤ 8
-IsShort (a_value.Ref o) = Unit {0}
+abbrev pub IsCopiedInPlace : Value → Type 0
+IsCopiedInPlace a_value.Unit = Unit {0}
+IsCopiedInPlace (a_value.Int i) = Unit {0}
+IsCopiedInPlace (a_value.Flag b) = Unit {0}
+IsCopiedInPlace (a_value.Text bytes) = length bytes ≤ 8
+IsCopiedInPlace (a_value.Ref o) = Unit {0}
 
 -- the slots have room for this block's
 abbrev pub IsSpacious : Frames → Option Block → Type 0

@@ -4,7 +4,7 @@
 ghost use Rattle.std.specs.Prelude.{◌≡◌, ◌≢◌, ◌+◌, ◌-◌, ◌<◌, ◌≤◌, true, false, List, [], ◌∷◌, ◌++◌, IfOk, IsOk, OnOk, All, Some, None, length, slice_get, vec_len, vec_capacity, reverse, replicate};
 ghost use Rattle.chord_code.specs.Slots.{first_slots};
 ghost use Rattle.chord_code.specs.Machine.{body_in_block, with_answer, with_object, pops};
-ghost use Rattle.chord_vm.specs.Frames.{machine_of, IsShort, IsSpacious, IsReady, HasRoom, IsMoved, IsRoomFor, laid};
+ghost use Rattle.chord_vm.specs.Frames.{machine_of, IsCopiedInPlace, IsSpacious, IsReady, HasRoom, IsMoved, IsRoomFor, laid};
 
 use chord_base::event::Limits;
 use chord_base::hand::Hand;
@@ -168,7 +168,7 @@ fn lay_copy(alloc: Global, slots: &mut Vec<Value>, value: &Value) -> Result<(), 
     ensures items { OnOk result (slots.new.items ≡ slots.old.items ++ value.now ∷ []) }
     ensures len { OnOk result (vec_len slots.new ≡ vec_len slots.old + 1) }
     ensures capacity { vec_capacity slots.new ≡ vec_capacity slots.old }
-    ensures short { IsShort value.now → IsOk result }
+    ensures short { IsCopiedInPlace value.now → IsOk result }
 {
     match value {
         Value::Int(number) => {
@@ -187,7 +187,7 @@ fn lay_other(alloc: Global, slots: &mut Vec<Value>, value: &Value) -> Result<(),
     ensures items { OnOk result (slots.new.items ≡ slots.old.items ++ value.now ∷ []) }
     ensures len { OnOk result (vec_len slots.new ≡ vec_len slots.old + 1) }
     ensures capacity { vec_capacity slots.new ≡ vec_capacity slots.old }
-    ensures short { IsShort value.now → IsOk result }
+    ensures short { IsCopiedInPlace value.now → IsOk result }
 {
     let copy = match value {
         Value::Unit => Value::Unit,
@@ -218,7 +218,7 @@ pub fn lay_copies(alloc: Global, slots: &mut Vec<Value>, values: &[Value]) -> Re
     requires { vec_len slots.old + length values.now ≤ vec_capacity slots.old }
     ensures items { OnOk result (slots.new.items ≡ slots.old.items ++ values.now) }
     ensures capacity { vec_capacity slots.new ≡ vec_capacity slots.old }
-    ensures short { All IsShort values.now → IsOk result }
+    ensures short { All IsCopiedInPlace values.now → IsOk result }
 {
     for value in values {
         lay_copy(alloc, slots, value)?;
@@ -238,7 +238,7 @@ fn fill_with(
     requires fits { first_slots n (this ∷ values.now) ≢ None }
     requires room { n ≤ vec_capacity slots.old }
     ensures filled { OnOk result (first_slots n (this ∷ values.now) ≡ Some slots.new.items) }
-    ensures short { All IsShort values.now → IsOk result }
+    ensures short { All IsCopiedInPlace values.now → IsOk result }
 {
     clear(slots);
     slots.push_reserved(this);
@@ -301,7 +301,7 @@ pub fn begin_with(
     ensures begun { OnOk result (body_in_block code.now block (frames.old.limits.depth - depth) (this ∷ arguments.now) frames.old.limits.turns ≡ Some (machine_of frames.new)) }
     ensures awaits { OnOk result (frames.new.awaited ≡ Awaited.ForNothing) }
     ensures limits { frames.new.limits ≡ frames.old.limits }
-    ensures short { All IsShort arguments.now → IsOk result }
+    ensures short { All IsCopiedInPlace arguments.now → IsOk result }
 {
     let block = block as usize;
     let slots = code.parts().blocks.items()[block].slots as usize;

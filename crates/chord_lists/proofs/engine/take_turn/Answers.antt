@@ -19,4 +19,4 @@ returns-in_ok-note-in-Message g c =
     let s = c.requires.state in
     let w = rw c.in-Message.is at (c.in_ok-go_on.ensures s.history s.played s.bodies) in
     let index = numbers_of c.note.new.self in
-    state_message _ _ _ _ index _ c.in-Message.object c.in-Message.method s w.0 w.1 w.2 c.in_ok-note-in-Message.ensures
+    state_message _ _ _ _ index _ c.in-Message.object c.in-Message.method s w.0 w.1 w.2 c.in_ok-note-in-Message.ensures.pushed

@@ -4,18 +4,18 @@ use Rattle.chord_lists.specs.Bag.{first_comes, older_of}
 use Rattle.chord_lists.proofs.Newest.{noted_before, newest_first}
 use Rattle.chord_lists.proofs.bag.Bag.note.Goals as goal
 
-pub returns-in-None : goal.returns-in-None
-returns-in-None c = λ i.
+pub returns-in-None-clause-pushed : goal.returns-in-None-clause-pushed
+returns-in-None-clause-pushed c = λ i.
     let ns = older_of c.args.self.now.older i in
     ap (λ newest. first_comes newest i ns) c.replace.ensures.after
     ∙ newest_first c.args.self.now.newest (record { object = c.args.object; method = c.args.method; number = c.args.number }) i ns (sym c.replace.ensures.value ∙ c.in-None.is)
 
-pub returns-in-Some : goal.returns-in-Some
-returns-in-Some c =
+pub returns-in-Some-clause-pushed : goal.returns-in-Some-clause-pushed
+returns-in-Some-clause-pushed c =
     on_ok_weaker c.note.result
     (λ q i.
     let ns = older_of c.args.self.now.older i in
     let ns' = older_of c.note.new.self i in
     ap (λ newest. first_comes newest i ns') c.replace.ensures.after
     ∙ noted_before c.args.self.now.newest (record { object = c.args.object; method = c.args.method; number = c.args.number }) c.in-Some.before i ns ns' (sym c.replace.ensures.value ∙ c.in-Some.is) (q i))
-    c.note.ensures
+    c.note.ensures.pushed
