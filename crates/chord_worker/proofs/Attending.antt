@@ -29,7 +29,7 @@ use Rattle.chord_task.specs.declared.parcel.Opened.{Opened as Parcel}
 use Rattle.chord_worker.specs.declared.worker.Worker.{Worker}
 use Rattle.chord_task.specs.Parcels.{entries_of, arguments_of, IsParcelOf}
 use Rattle.chord_worker.specs.Firing.{HasFired}
-use Rattle.chord_worker.specs.Resting.{IsHandFree, IsInMemory, MayContinue, IsStock, IsAtRest, IsSameRole}
+use Rattle.chord_worker.specs.Resting.{IsHandFree, IsInMemory, MayContinue, IsStock, IsAtRest, IsSameRole, IsOutOfMemory}
 use Rattle.chord_worker.specs.Sending.{Minds}
 
 -- ## The one duty
@@ -219,3 +219,12 @@ module _ (s : Space Parcel) (w w' : Worker) (m k : ℕ) (minds : Minds s w m k) 
     stock = subst (IsStock (space_code s) (space_limits s)) (sym (stock ∙ minds.spare)) minds.is_stock;
     listed = lists_same w.draws.items w'.draws.items w.taken.items w'.taken.items (view w.desk).draws (view w'.desk).draws draws taken (ap (λ (z : View). z.draws) view_is) minds.listed;
   }
+
+-- a worker that minds a message, and has no room for the entry of a firing, is out of memory once its task is laid off
+pub out_of_memory : (s : Space Parcel) (w : Worker) (m k : ℕ) → Minds s w m k → (list : Vec Entry Global) → list.items ≡ w.draws.items → (x : Option Task) → x ≡ None → IsOutOfMemory s (record w { draws = list; task = x })
+out_of_memory s w m k minds list items x none = record {
+  desk = minds.desk;
+  none = none;
+  free = minds.free;
+  listed = lists_same w.draws.items list.items w.taken.items w.taken.items (view w.desk).draws (view w.desk).draws items refl refl minds.listed;
+}

@@ -78,9 +78,10 @@ pub record IsAtRest (s : Space Parcel) (w : Worker) : Type 0 where
   -- its lists have what its desk drew, and what the desks of the workers that it took in drew
   pub listed : AreListed w.draws.items w.taken.items (view w.desk).draws
 
--- a worker that ran out of memory has no claim and nothing in flight, and its lists have each entry that its desk drew
+-- a worker that ran out of memory has no task, no claim and nothing in flight, and its lists have each entry that its desk drew
 pub record IsOutOfMemory (s : Space Parcel) (w : Worker) : Type 0 where
   pub desk : IsDeskOf s w.desk
+  pub none : w.task ≡ None
   pub free : IsHandFree (view w.desk)
   pub listed : AreListed w.draws.items w.taken.items (view w.desk).draws
 

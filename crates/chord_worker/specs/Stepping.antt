@@ -1,7 +1,11 @@
 -- What a step leaves behind: an entry that the desk keeps, a task that is away with its call, or the word that the limit is reached.
-use Rattle.std.specs.Prelude.{◌≡◌, ◌≢◌, ◌⊎◌, ◌<◌, ℕ, true, List, ◌∷◌, Option, Some, None}
+use Rattle.std.specs.Prelude.{◌≡◌, ◌≢◌, ◌⊎◌, ◌<◌, ℕ, true, false, List, [], ◌∷◌, Option, Some, None}
 use Rattle.chord_base.specs.declared.event.Entry.{Entry}
+use Rattle.chord_base.specs.declared.event.What.TheVariants.{Begun}
+use Rattle.chord_base.specs.Printed.{is_end}
 use Rattle.chord_base.specs.Story.{AllBelow, IsIn}
+use Rattle.chord_rule.specs.Kinds.{entry}
+use Rattle.chord_rule.specs.Stages.{IsFiringEntry}
 use Rattle.chord_space.specs.Desks.{view}
 use Rattle.chord_task.specs.declared.task.Task.{Task}
 use Rattle.chord_task.specs.Standing.{view_of}
@@ -32,6 +36,12 @@ PlaysBody b w = (t : Task) × (w.task ≡ Some t) × ((view_of t).top ≡ Some b
 abbrev pub PlaysKnownBody : (ℕ → Type 0) → List Entry → Worker → Type 0
 PlaysKnownBody knows before w = (e : Entry) × IsIn e (view w.desk).kept × AllBelow e.number before × knows e.number × PlaysBody e.number w
 
+-- the worker plays `Main`, whose beginning is all that its desk drew, and was not told that the limit is reached
+pub record PlaysMain (w : Worker) : Type 0 where
+  pub plays : PlaysBody 0 w
+  pub room : w.spent ≡ false
+  pub drawn : (view w.desk).draws ≡ entry 0 0 Begun ∷ []
+
 -- the worker, whose desk kept these entries, plays no other task than this one, or a body of which the gate knows
 abbrev pub PlaysNext : (ℕ → Type 0) → List Entry → Task → Worker → Type 0
 PlaysNext knows before t w = PlaysNoOther t w.task ⊎ PlaysKnownBody knows before w
@@ -57,3 +67,15 @@ HasTakenOn knows before x w f = ((x ≢ None) × StillPlays before x w) ⊎ Play
 -- the message m was minded: nothing else is played than before, or a firing is played that was drawn after m, or the desk was told that the limit is reached
 abbrev pub WasMinded : (ℕ → Type 0) → List Entry → Option Task → Worker → ℕ → Type 0
 WasMinded knows before x w m = StillPlays before x w ⊎ (((f : ℕ) × (m < f) × PlaysFiring knows before x w f) ⊎ ((view w.desk).spent ≡ true))
+
+-- after these entries a desk drew at most one, with which the body of a firing begins
+abbrev pub DrewFiring : List Entry → List Entry → Type 0
+DrewFiring before now = (now ≡ before) ⊎ ((f : Entry) × (now ≡ f ∷ before) × IsFiringEntry (Some f.what) × (f.body ≡ f.number))
+
+-- after these entries a desk drew at most the end of the body b, and then at most one firing
+abbrev pub DrewEnd : ℕ → List Entry → List Entry → Type 0
+DrewEnd b before now = DrewFiring before now ⊎ ((e : Entry) × (e.body ≡ b) × (is_end e.what ≡ true) × DrewFiring (e ∷ before) now)
+
+-- in a step of the task its desk, which had drawn these entries, drew at most two of the body on top, the second of which is its end, and then at most one firing, and nothing of any other body
+abbrev pub DrewAStep : Task → List Entry → List Entry → Type 0
+DrewAStep t before now = (now ≡ before) ⊎ ((e : Entry) × ((view_of t).top ≡ Some e.body) × DrewEnd e.body (e ∷ before) now)

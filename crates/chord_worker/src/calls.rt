@@ -7,11 +7,11 @@ ghost use Rattle.chord_rule.specs.Kinds.{newcomer_first, lent_one, saw, saw_coun
 ghost use Rattle.chord_rule.specs.Tells.{a_word};
 ghost use Rattle.chord_task.specs.Standing.{view_of, IsTaskOf, MainBegins};
 ghost use Rattle.chord_word.specs.declared.cells.Cell.{Cell as TheCell};
-ghost use Rattle.chord_word.specs.declared.cells.Cell.TheVariants.{Ready};
+ghost use Rattle.chord_word.specs.declared.cells.Cell.TheVariants.{Ready, Started};
 ghost use Rattle.chord_space.specs.Desks.{view, space_code, space_limits, program_of, IsDeskOf};
 ghost use Rattle.chord_word.specs.declared.cells.Word.{Word};
 ghost use Rattle.chord_worker.specs.Resting.{IsAtRest, IsSameRole, IsSeen};
-ghost use Rattle.chord_worker.specs.Stepping.{PlaysFiring};
+ghost use Rattle.chord_worker.specs.Stepping.{PlaysFiring, PlaysMain};
 
 use crate::worker::{Gate, Worker};
 use chord_base::event::{Entry, Limits, What};
@@ -50,8 +50,8 @@ fn main_task(
 }
 
 impl Worker {
-    /// The first worker, with the desk that the table gave: `Main` begins. The counter stands at 0 then, so that the first draw is
-    /// never told that the limit is reached.
+    /// The first worker, with the desk that the table gave: `Main` begins, and nothing of it is played yet. The counter stands at 0
+    /// then, so that the first draw is never told that the limit is reached.
     pub fn main(
         alloc: Global,
         space: &Space<Parcel>,
@@ -62,7 +62,7 @@ impl Worker {
         requires code { (space_code space.now ≡ code.now) × (space_limits space.now ≡ limits.now) }
         requires sound { IsSound (program_of space.now) }
         requires desk { IsDeskOf space.now desk × (view desk ≡ newcomer_first) }
-        ensures { IfOk result (λ w. IsAtRest space.now w × IsSameRole (view desk) (view w.desk) × ((view w.desk).drawn ≡ true) × ((view w.desk).spent ≡ true → w.task ≡ None)) }
+        ensures { IfOk result (λ w. IsAtRest space.now w × IsSameRole (view desk) (view w.desk) × ((view w.desk).drawn ≡ true) × ((view w.desk).spent ≡ true → w.task ≡ None) × PlaysMain w) }
     {
         let mut desk = desk;
         let mut draws = Vec::new(alloc);
@@ -112,6 +112,13 @@ impl Worker {
         self.spent
     }
 
+    /// The entries that it drew, the oldest first.
+    pub fn draws(&self) -> &[Entry]
+        ensures { result.now ≡ self.now.draws.items }
+    {
+        self.draws.as_slice()
+    }
+
     /// How many numbers were given, at most as many as events are allowed.
     pub fn count(&mut self, space: &Space<Parcel>) -> u32
         requires rest { IsAtRest space.now self.old }
@@ -134,7 +141,7 @@ impl Worker {
     }
 
     /// Starts the firing of this number, whose body the worker then plays, if it is ready. Whether it was; if not, the worker saw what its
-    /// cell said, and nothing else has changed.
+    /// cell said, and nothing else has changed. In both cases it looks at this cell alone, once, and draws nothing.
     pub fn start<G: Gate>(
         &mut self,
         space: &Space<Parcel>,
@@ -153,6 +160,8 @@ impl Worker {
         ensures room { (view self.new.desk).spent ≡ false }
         ensures task { result ≡ is_some self.new.task }
         ensures plays { result ≡ true → PlaysFiring G.knows (view self.old.desk).kept self.old.task self.new i }
+        ensures undrawn { (view self.new.desk).draws ≡ (view self.old.desk).draws }
+        ensures once { (x : Word) × (result ≡ true → x.cell ≡ Started) × ((view self.new.desk).looked ≡ (saw (view self.old.desk) i x).looked) }
         ensures refused { result ≡ false → (c : TheCell) × (next : Option ℕ) × (c ≢ Ready) × (view self.new.desk ≡ saw (view self.old.desk) i (a_word c next)) }
     {
         let _parts = code.parts();

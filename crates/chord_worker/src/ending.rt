@@ -1,14 +1,16 @@
 //! A body that has sent its last message ends before the message is minded.
-ghost use Rattle.std.specs.Prelude.{◌≡◌, ◌≢◌, ◌<◌, true, None, Some, OnOk, OnErr, vec_len};
+ghost use Rattle.std.specs.Prelude.{◌≡◌, ◌≢◌, ℕ, ◌<◌, true, None, Some, OnOk, OnErr, vec_len};
 ghost use Rattle.chord_base.specs.Story.{IsSound};
 ghost use Rattle.chord_base.specs.declared.event.End.TheVariants.{Gives};
 ghost use Rattle.chord_base.specs.declared.event.What.TheVariants.{Ended};
 ghost use Rattle.chord_base.specs.declared.value.Value.TheVariants as a_value;
 ghost use Rattle.chord_rule.specs.Made.{key};
 ghost use Rattle.chord_space.specs.Desks.{view, heads, space_code, space_limits, program_of, IsDeskOf};
+ghost use Rattle.chord_task.specs.Standing.{view_of};
 ghost use Rattle.chord_task.specs.Turning.{HasCome, OwnsNothing};
 ghost use Rattle.chord_worker.specs.Sending.{Minds, WasMindedLast};
 ghost use Rattle.chord_worker.specs.Resting.{IsAtRest, IsSameRole, IsOutOfMemory};
+ghost use Rattle.chord_worker.specs.Stepping.{DrewEnd};
 
 use crate::minding::Minded;
 use crate::playing::draw_own;
@@ -59,6 +61,7 @@ impl Worker {
         ensures minded { OnOk result (WasMindedLast G.knows (view self.old.desk).kept self.new message.number) }
         ensures stocked { OnOk result (self.new.spare ≢ None) }
         ensures bare { OnOk result (OwnsNothing asked.new) }
+        ensures drew { (b : ℕ) → (view_of task).top ≡ Some b → DrewEnd b (view self.old.desk).draws (view self.new.desk).draws }
         ensures short { OnErr result (IsOutOfMemory space.now self.new) }
     {
         let mut task = task;

@@ -1,5 +1,5 @@
 //! A worker minds a message that it sent off: it looks for chords with the message, and fires one.
-ghost use Rattle.std.specs.Prelude.{◌≡◌, ◌<◌, ℕ, true, false, None, IfOk, OnOk, OnErr};
+ghost use Rattle.std.specs.Prelude.{◌≡◌, ◌<◌, ℕ, true, false, None, IfOk, OnOk, OnErr, vec_len, vec_capacity};
 ghost use Rattle.chord_base.specs.Story.{IsSound};
 ghost use Rattle.chord_match.specs.Findings.{IsMatch};
 ghost use Rattle.chord_match.specs.Fires.{IsLost};
@@ -9,11 +9,11 @@ ghost use Rattle.chord_space.specs.Desks.{view, heads, space_code, space_limits,
 ghost use Rattle.chord_worker.specs.Hindered.{IsHindered};
 ghost use Rattle.chord_worker.specs.Sending.{Minds};
 ghost use Rattle.chord_worker.specs.Resting.{IsAtRest, IsSameRole, IsOutOfMemory};
-ghost use Rattle.chord_worker.specs.Stepping.{StillPlays, WasMinded};
+ghost use Rattle.chord_worker.specs.Stepping.{DrewFiring, StillPlays, WasMinded};
 
-use crate::fired::{Drawn, Unpacked};
+use crate::fired::{Drawn, Unpacked, lay_off};
 use crate::worker::{Gate, Worker};
-use chord_base::event::Limits;
+use chord_base::event::{Entry, Limits};
 use chord_base::members::Members;
 use chord_base::value::Object;
 use chord_code::code::Code;
@@ -33,7 +33,31 @@ pub(crate) struct Minded {
     pub method: u8,
 }
 
+/// Whether there is room for one more entry in the list.
+#[inline(always)]
+fn has_room(draws: &mut Vec<Entry>) -> bool
+    ensures items { draws.new.items ≡ draws.old.items }
+    ensures room { result ≡ true → vec_len draws.new < vec_capacity draws.new }
+{
+    match draws.reserve(1) {
+        Ok(()) => true,
+        Err(_) => false,
+    }
+}
+
 impl Worker {
+    /// There is no memory: what the worker plays is not played on.
+    #[inline(never)]
+    fn drop_task(&mut self)
+        ensures rest { self.new ≡ record self.old { task = self.new.task } }
+        ensures none { self.new.task ≡ None }
+    {
+        match self.task.take() {
+            None => {}
+            Some(task) => lay_off(task),
+        }
+    }
+
     /// The limit on events is reached: what the worker plays is not played on.
     pub(crate) fn give_up(&mut self)
         ensures same { (self.new.desk ≡ self.old.desk) × (self.new.spare ≡ self.old.spare) × (self.new.spent ≡ true) }
@@ -70,11 +94,16 @@ impl Worker {
         ensures role { OnOk result (IsSameRole (view self.old.desk) (view self.new.desk)) }
         ensures minded { IfOk result (λ b. b ≡ true → WasMinded G.knows (view self.old.desk).kept self.old.task self.new message.number) }
         ensures same { IfOk result (λ b. b ≡ false → StillPlays (view self.old.desk).kept self.old.task self.new) }
+        ensures drew { DrewFiring (view self.old.desk).draws (view self.new.desk).draws }
+        ensures undrawn { IfOk result (λ b. b ≡ false → (view self.new.desk).draws ≡ (view self.old.desk).draws) }
         ensures short { OnErr result (IsOutOfMemory space.now self.new) }
         ensures lost { IfOk result (λ b. b ≡ false → (i : ℕ) × IsLost space.now.events (view self.old.desk) (view self.new.desk) members.now nexts.now i) }
     {
         let object = message.object;
-        self.draws.reserve(1)?;
+        if !has_room(&mut self.draws) {
+            self.drop_task();
+            return Err(AllocError);
+        }
         let mut unpacked = Unpacked::nothing();
         match fire_to(
             space,
@@ -128,6 +157,8 @@ impl Worker {
         ensures role { OnOk result (IsSameRole (view self.old.desk) (view self.new.desk)) }
         ensures minded { IfOk result (λ b. b ≡ true → WasMinded G.knows (view self.old.desk).kept self.old.task self.new message.number) }
         ensures same { IfOk result (λ b. b ≡ false → StillPlays (view self.old.desk).kept self.old.task self.new) }
+        ensures drew { DrewFiring (view self.old.desk).draws (view self.new.desk).draws }
+        ensures undrawn { IfOk result (λ b. b ≡ false → (view self.new.desk).draws ≡ (view self.old.desk).draws) }
         ensures short { OnErr result (IsOutOfMemory space.now self.new) }
         ensures hindered { IfOk result (λ b. b ≡ false → IsHindered (program_of space.now) space.now.events (view self.old.desk) (view self.new.desk) message.number message.object message.method) }
     {
@@ -174,6 +205,7 @@ impl Worker {
         ensures over { OnOk result (IsAtRest space.now self.new × (self.new.spent ≡ true → self.new.task ≡ None)) }
         ensures role { OnOk result (IsSameRole (view self.old.desk) (view self.new.desk)) }
         ensures minded { OnOk result (WasMinded G.knows (view self.old.desk).kept self.old.task self.new message.number) }
+        ensures drew { DrewFiring (view self.old.desk).draws (view self.new.desk).draws }
         ensures short { OnErr result (IsOutOfMemory space.now self.new) }
     {
         if self.attend(space, code, limits, gate, message)? {
@@ -203,6 +235,7 @@ impl Worker {
         ensures over { OnOk result (IsAtRest space.now self.new × (self.new.spent ≡ true → self.new.task ≡ None)) }
         ensures role { OnOk result (IsSameRole (view self.old.desk) (view self.new.desk)) }
         ensures minded { OnOk result (WasMinded G.knows (view self.old.desk).kept self.old.task self.new message.number) }
+        ensures drew { DrewFiring (view self.old.desk).draws (view self.new.desk).draws }
         ensures short { OnErr result (IsOutOfMemory space.now self.new) }
     {
         let backoff = Backoff::new();

@@ -5,7 +5,8 @@ use Rattle.chord_rule.specs.declared.view.View.{View}
 use Rattle.chord_rule.specs.Duties.{HasDuty}
 use Rattle.chord_space.specs.Desks.{view}
 use Rattle.chord_word.specs.declared.cells.Cell.TheVariants as a_cell
-use Rattle.chord_worker.proofs.Attending.{the_duty, still_minds, minded, looks_kept, looks_on, cell_looks}
+use Rattle.chord_worker.proofs.Attending.{the_duty, still_minds, minded, looks_kept, looks_draws, looks_on, cell_looks}
+use Rattle.chord_worker.proofs.Drawn.{drew_since}
 use Rattle.chord_worker.proofs.Stepping.{minded_since}
 use Rattle.chord_worker.proofs.worker.Worker.attend.Goals as goal
 
@@ -104,3 +105,52 @@ returns-in_ok-over-in-Match-clause-hindered g c = λ e.
 
 pub returns-in-Busy-clause-hindered : goal.returns-in-Busy-clause-hindered
 returns-in-Busy-clause-hindered g c = λ e. inl (_, c.in-Busy.ensures.finding)
+
+pub returns-in_ok-over-in-Match-clause-drew : goal.returns-in_ok-over-in-Match-clause-drew
+returns-in_ok-over-in-Match-clause-drew g c =
+    drew_since (view c.args.self.now.desk).draws (view c.find.new.desk).draws (view c.try_to_fire.new.self.desk).draws
+    (looks_draws (view c.args.self.now.desk) (view c.find.new.desk) (looks_on _ _ _ (cell_looks (view c.args.self.now.desk) c.args.message.number (record { cell = a_cell.Pending; next = c.in-Match.ensures.finding.next })) c.in-Match.ensures.finding.sought.grows.only))
+    c.try_to_fire.ensures.drew
+
+pub returns-in_err-over-in-Match-clause-drew : goal.returns-in_err-over-in-Match-clause-drew
+returns-in_err-over-in-Match-clause-drew g c =
+    drew_since (view c.args.self.now.desk).draws (view c.find.new.desk).draws (view c.try_to_fire.new.self.desk).draws
+    (looks_draws (view c.args.self.now.desk) (view c.find.new.desk) (looks_on _ _ _ (cell_looks (view c.args.self.now.desk) c.args.message.number (record { cell = a_cell.Pending; next = c.in-Match.ensures.finding.next })) c.in-Match.ensures.finding.sought.grows.only))
+    c.try_to_fire.ensures.drew
+
+pub returns-in_ok-over-in-Match-clause-undrawn : goal.returns-in_ok-over-in-Match-clause-undrawn
+returns-in_ok-over-in-Match-clause-undrawn g c = λ e.
+    c.in_ok-over-in-Match.ensures.undrawn e
+    ∙ looks_draws (view c.args.self.now.desk) (view c.find.new.desk) (looks_on _ _ _ (cell_looks (view c.args.self.now.desk) c.args.message.number (record { cell = a_cell.Pending; next = c.in-Match.ensures.finding.next })) c.in-Match.ensures.finding.sought.grows.only)
+
+pub returns-in-Busy-clause-undrawn : goal.returns-in-Busy-clause-undrawn
+returns-in-Busy-clause-undrawn g c = λ e.
+    let v = view c.args.self.now.desk in
+    let m = c.args.message.number in
+    looks_draws v (view c.find.new.desk)
+    (⊎_elim
+    (λ t. subst (IsOnlyLooks v) (sym t.1.1) (cell_looks v m (record { cell = a_cell.Claimed; next = t.1.0 })))
+    (λ b. looks_on _ _ _ (cell_looks v m (record { cell = a_cell.Pending; next = b.next })) b.sought.grows.only)
+    c.in-Busy.ensures.finding.one)
+
+pub returns-in-Busy-clause-drew : goal.returns-in-Busy-clause-drew
+returns-in-Busy-clause-drew g c =
+    let v = view c.args.self.now.desk in
+    let m = c.args.message.number in
+    inl (looks_draws v (view c.find.new.desk)
+    (⊎_elim
+    (λ t. subst (IsOnlyLooks v) (sym t.1.1) (cell_looks v m (record { cell = a_cell.Claimed; next = t.1.0 })))
+    (λ b. looks_on _ _ _ (cell_looks v m (record { cell = a_cell.Pending; next = b.next })) b.sought.grows.only)
+    c.in-Busy.ensures.finding.one))
+
+pub returns-in-Left-clause-drew : goal.returns-in-Left-clause-drew
+returns-in-Left-clause-drew g c =
+    let v = view c.args.self.now.desk in
+    let m = c.args.message.number in
+    inl (⊎_elim
+    (λ t. ap (λ (z : View). z.draws) t.2)
+    (λ t. ap (λ (z : View). z.draws) t.2 ∙ looks_draws v t.0 (looks_on _ _ _ (cell_looks v m (record { cell = a_cell.Pending; next = t.1.next })) t.1.sought.grows.only))
+    c.in-Left.ensures.finding)
+
+pub returns-in-Taken-clause-drew : goal.returns-in-Taken-clause-drew
+returns-in-Taken-clause-drew g c = inl (ap (λ (z : View). z.draws) c.in-Taken.ensures.finding.1)

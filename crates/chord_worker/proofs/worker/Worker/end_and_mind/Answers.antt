@@ -1,4 +1,4 @@
-use Rattle.std.proofs.Common.{◌≡◌, Option, Some, None, refl, sym, ap, ◌∙◌, subst, inr, vec_len, Vec, Global}
+use Rattle.std.proofs.Common.{◌≡◌, Option, Some, None, refl, sym, ap, ◌∙◌, subst, inl, inr, vec_len, Vec, Global}
 use Rattle.chord_base.specs.declared.event.End.{End}
 use Rattle.chord_base.specs.declared.event.End.TheVariants.{Gives}
 use Rattle.chord_base.specs.declared.event.What.TheVariants.{Ended}
@@ -18,8 +18,9 @@ use Rattle.chord_vm.specs.declared.ask.Ask.TheVariants as ask
 use Rattle.chord_vm.specs.Frames.{what_of_ask}
 use Rattle.chord_worker.specs.Playing.{DrawsOne, HeardOfLimit, IsNotedFrom}
 use Rattle.chord_worker.specs.Resting.{IsAtRest, IsSameRole}
-use Rattle.chord_worker.specs.Stepping.{WasMinded}
+use Rattle.chord_worker.specs.Stepping.{DrewEnd, WasMinded}
 use Rattle.chord_worker.proofs.Attending.{role_on}
+use Rattle.chord_worker.proofs.Drawn.{end_drew}
 use Rattle.chord_worker.proofs.Ended.{ended_minds, ended_told, rest_stocked, stays_stocked}
 use Rattle.chord_worker.proofs.Given.{value_of_some, where_none}
 use Rattle.chord_worker.proofs.Resting.{role_noted, role_told}
@@ -114,3 +115,29 @@ pub returns-in-None-clause-stocked : goal.returns-in-None-clause-stocked
 returns-in-None-clause-stocked g c = λ e.
     let stock : Some c.requires.minds.stock ≡ None = sym c.requires.minds.spare ∙ sym c.lay_down.ensures.same.1 ∙ e in
     absurd (cc)
+
+pub returns-in_ok-mind-in-Some-clause-drew : goal.returns-in_ok-mind-in-Some-clause-drew
+returns-in_ok-mind-in-Some-clause-drew g c = λ b top.
+    let s = c.args.space.now in
+    let w = c.args.self.now in
+    let n = c.in-Some.field-0 in
+    let noted = value_of_some _ n (IsNotedFrom s (view w.desk) (view c.draw_own.new.desk) c.replace.new.dest c.args.task c.draw_own.new.task) c.in-Some.is c.in_ok-draw_own.ensures.noted (ask.End (Gives a_value.Unit)) c.args.task c.replace.ensures.after c.requires.came in
+    subst (λ (d : Desk Parcel). DrewEnd b (view w.desk).draws (view d).draws) (sym c.retire.ensures.same.0)
+    (end_drew (space_code s) (space_limits s) (view w.desk) (view c.draw_own.new.desk) c.args.task c.draw_own.new.task n (Ended (Gives a_value.Unit)) noted b top refl (view c.mind.new.self.desk).draws c.mind.ensures.drew)
+
+pub returns-in_err-mind-in-Some-clause-drew : goal.returns-in_err-mind-in-Some-clause-drew
+returns-in_err-mind-in-Some-clause-drew g c = λ b top.
+    let s = c.args.space.now in
+    let w = c.args.self.now in
+    let n = c.in-Some.field-0 in
+    let noted = value_of_some _ n (IsNotedFrom s (view w.desk) (view c.draw_own.new.desk) c.replace.new.dest c.args.task c.draw_own.new.task) c.in-Some.is c.in_ok-draw_own.ensures.noted (ask.End (Gives a_value.Unit)) c.args.task c.replace.ensures.after c.requires.came in
+    end_drew (space_code s) (space_limits s) (view w.desk) (view c.draw_own.new.desk) c.args.task c.draw_own.new.task n (Ended (Gives a_value.Unit)) noted b top refl (view c.mind.new.self.desk).draws c.mind.ensures.drew
+
+pub returns-in-None-clause-drew : goal.returns-in-None-clause-drew
+returns-in-None-clause-drew g c = λ b top.
+    let w = c.args.self.now in
+    let told = where_none _ (HeardOfLimit (view w.desk) (view c.draw_own.new.desk)) c.in-None.is c.in_ok-draw_own.ensures.told in
+    inl (inl (ap (λ (x : Desk Parcel). (view x).draws) c.lay_down.ensures.same.0 ∙ ap (λ (z : View). z.draws) told.1))
+
+pub returns-in_err-draw_own-clause-drew : goal.returns-in_err-draw_own-clause-drew
+returns-in_err-draw_own-clause-drew g c = λ b top. inl (inl (ap (λ (z : View). z.draws) c.in_err-draw_own.ensures.undrawn.0))

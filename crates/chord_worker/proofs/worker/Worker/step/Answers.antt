@@ -9,6 +9,7 @@ use Rattle.chord_worker.proofs.Given.{some_ask, stocked_rest}
 use Rattle.std.proofs.lemmas.Result.{IfOk-weaker}
 use Rattle.chord_task.specs.declared.task.Task.{Task}
 use Rattle.chord_worker.specs.Stepping.{HasGoneOn, PlaysNext}
+use Rattle.chord_worker.proofs.Drawn.{drew_alike}
 use Rattle.chord_worker.proofs.Stepping.{gone_on, plays_next}
 use Rattle.chord_worker.proofs.worker.Worker.step.Goals as goal
 
@@ -44,3 +45,11 @@ returns-clause-plays g c =
     let a = some_ask c.come.new.asked c.in_ok-come-in-Some.ensures.some in
     let came = rw (c.deref_mut.ensures.value ∙ c.task.view_is) at c.in_ok-come-in-Some.ensures.came a.0 a.1 in
     plays_next g.G.Gate.knows (view c.args.self.now.desk).kept t c.come.new.self c.play-played.new.self (came.view ∙ ap view_of k) plays) c.play-played.ensures.plays
+
+pub returns-clause-drew : goal.returns-clause-drew
+returns-clause-drew g c = λ t e.
+    let same : Some c.in-Some.task ≡ Some t = sym (sym c.take.ensures.value ∙ c.in-Some.is) ∙ e in
+    let k : c.in-Some.task ≡ t = cc in
+    let a = some_ask c.come.new.asked c.in_ok-come-in-Some.ensures.some in
+    let came = rw (c.deref_mut.ensures.value ∙ c.task.view_is) at c.in_ok-come-in-Some.ensures.came a.0 a.1 in
+    drew_alike (view c.args.self.now.desk).draws (view c.play-played.new.self.desk).draws t c.come.new.self (came.view ∙ ap view_of k) c.play-played.ensures.drew

@@ -1,6 +1,7 @@
-use Rattle.std.proofs.Common.{◌≡◌, refl, sym, ◌∙◌, subst, Some, None, inl, inr}
+use Rattle.std.proofs.Common.{◌≡◌, refl, sym, ap, ◌∙◌, subst, Some, None, inl, inr}
 use Rattle.chord_base.specs.declared.event.Limits.{Limits}
 use Rattle.chord_code.specs.declared.parts.Parts.{Parts}
+use Rattle.chord_rule.specs.declared.view.View.{View}
 use Rattle.chord_space.specs.Desks.{view, space_code, space_limits, program_of}
 use Rattle.chord_space.specs.Gives.{MayPost}
 use Rattle.chord_task.specs.Parcels.{IsParcelOf}
@@ -43,3 +44,6 @@ returns-then-is_none-clause-taken g c = λ v b. inr (plays_it g.G.Gate.knows _ _
 
 pub returns-clause-taken : goal.returns-clause-taken
 returns-clause-taken g c = λ v b. inl (a_task c.args.self.now.task c.if-is_none.ensures, (refl, kept_posted _ _ _ _ _ b c.post.new.desk c.post.ensures.desk _ c.packed-parcel.ensures.entries _ c.post.ensures.posted))
+
+pub returns-clause-undrawn : goal.returns-clause-undrawn
+returns-clause-undrawn g c = ap (λ (z : View). z.draws) c.post.ensures.posted

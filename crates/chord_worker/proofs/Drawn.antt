@@ -1,0 +1,51 @@
+-- What a worker draws in a step: an ask of the body on top, the end of this body, and a firing.
+use Rattle.std.proofs.Common.{◌≡◌, ℕ, true, List, ◌∷◌, Some, refl, sym, ap, ◌∙◌, subst, ◌⊎◌, inr}
+use Rattle.chord_base.specs.declared.event.Entry.{Entry}
+use Rattle.chord_base.specs.declared.event.Limits.{Limits}
+use Rattle.chord_base.specs.declared.event.What.{What}
+use Rattle.chord_base.specs.declared.value.Object.{Object}
+use Rattle.chord_base.specs.Meaning.{Program}
+use Rattle.chord_base.specs.Printed.{is_end}
+use Rattle.chord_code.specs.declared.parts.Parts.{Parts}
+use Rattle.chord_match.specs.Fires.{firing_entry, IsFired}
+use Rattle.chord_rule.specs.declared.view.View.{View}
+use Rattle.chord_rule.specs.Kinds.{entry}
+use Rattle.chord_task.specs.declared.parcel.Opened.{Opened as Parcel}
+use Rattle.chord_task.specs.declared.task.Task.{Task}
+use Rattle.chord_task.specs.Parcels.{entries_of, arguments_of}
+use Rattle.chord_task.specs.Stacks.{TaskView}
+use Rattle.chord_task.specs.Standing.{view_of}
+use Rattle.chord_worker.specs.Playing.{IsNotedAs}
+use Rattle.chord_worker.specs.Stepping.{DrewFiring, DrewEnd, DrewAStep}
+
+-- a firing was drawn
+pub fired_drew : (keeps : Parcel → Type 0) (p : Program) (n : ℕ) (v w : View) (o : Object) (chord : ℕ) (ms : List ℕ) (f : ℕ) (qs : List Parcel) → IsFired entries_of arguments_of keeps p n v w o chord ms f qs → DrewFiring v.draws w.draws
+fired_drew keeps p n v w o chord ms f qs fired = inr (firing_entry arguments_of o chord ms f qs, ap (λ (z : View). z.draws) fired.view, tt, refl)
+
+-- so it is after what was drawn before
+pub drew_since : (before before' now : List Entry) → before' ≡ before → DrewFiring before' now → DrewFiring before now
+drew_since before before' now same drew = subst (λ (es : List Entry). DrewFiring es now) same drew
+
+module _ (code : Parts) (limits : Limits) (v u : View) (t t' : Task) (n : ℕ) (what : What) (noted : IsNotedAs code limits v u t t' n what) where
+  -- an entry was drawn
+  noted_draws : u.draws ≡ entry n noted.body what ∷ v.draws
+  noted_draws = ap (λ (z : View). z.draws) noted.drawn
+
+  -- the ask of the body on top was drawn, and what follows from it
+  pub ask_drew : (task : Task) → view_of task ≡ view_of t → (es now : List Entry) → es ≡ u.draws → DrewEnd noted.body es now → DrewAStep task v.draws now
+  ask_drew task same es now is drew = inr (
+    entry n noted.body what,
+    ap (λ (x : TaskView). x.top) same ∙ noted.on_top,
+    subst (λ (ds : List Entry). DrewEnd noted.body ds now) (is ∙ noted_draws) drew,
+  )
+
+  -- the end of the body on top was drawn, and what follows from the message before it
+  pub end_drew : (b : ℕ) → (view_of t).top ≡ Some b → is_end what ≡ true → (now : List Entry) → DrewFiring u.draws now → DrewEnd b v.draws now
+  end_drew b top ends now drew =
+      let same : Some noted.body ≡ Some b = sym noted.on_top ∙ top in
+      let k : noted.body ≡ b = cc in
+      inr (entry n noted.body what, k, ends, subst (λ (ds : List Entry). DrewFiring ds now) noted_draws drew)
+
+-- so it is in a step of a task that is seen alike
+pub drew_alike : (before now : List Entry) (t t' : Task) → view_of t' ≡ view_of t → DrewAStep t' before now → DrewAStep t before now
+drew_alike before now t t' same drew = subst (λ (x : TaskView). (now ≡ before) ⊎ ((e : Entry) × (x.top ≡ Some e.body) × DrewEnd e.body (e ∷ before) now)) same drew
