@@ -367,6 +367,18 @@ class Program { static void Main() { Buffer b = new Buffer(); Console.WriteLine(
     },
 ];
 
+/// The top call of one thread, with these words behind a blank, if there are any.
+fn answer_alone<R: Threads + Wait + Sync>(
+    rt: &R,
+    alloc: Global,
+    more: &str,
+    source: MemSource,
+    sink: &mut MemSink,
+) -> Result<Report, AllocError> {
+    let words = format!(in alloc; "run --one{more}")?;
+    answer(rt, alloc, words.as_str(), source, sink)
+}
+
 #[test]
 fn programs(rt: HostRuntime) -> Result<(), Fail> {
     for case in &PLAYED {
@@ -374,9 +386,7 @@ fn programs(rt: HostRuntime) -> Result<(), Fail> {
         let bytes = Vec::from_slice(alloc, case.source.as_bytes())?;
         let source = MemSource::new(bytes, 4096, Vec::new(alloc));
         let mut sink = MemSink::new(alloc, 100, 4096, Vec::new(alloc))?;
-        let limit = case.limit;
-        let words = format!(in alloc; "run --one{limit}")?;
-        let report = answer(&rt, alloc, words.as_str(), source, &mut sink)?;
+        let report = answer_alone(&rt, alloc, case.limit, source, &mut sink)?;
         let name = case.name;
         assert_eq!(rt; sink.taken(), case.written.as_bytes(), "{name}");
         assert_eq!(rt; report.status, case.status, "{name}");
