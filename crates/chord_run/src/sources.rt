@@ -13,6 +13,27 @@ class Program {
 }
 ";
 
+/// Twenty texts are put into a buffer, which no run of 16 entries does.
+pub(crate) const PUTS_PAST_16: &str = "class Buffer {
+  public string Get() & public async Put(string s) { return s; }
+}
+class Program {
+  static void Main() {
+    Buffer b = new Buffer();
+    b.Put(\"hi\"); b.Put(\"hi\"); b.Put(\"hi\"); b.Put(\"hi\"); b.Put(\"hi\");
+    b.Put(\"hi\"); b.Put(\"hi\"); b.Put(\"hi\"); b.Put(\"hi\"); b.Put(\"hi\");
+    b.Put(\"hi\"); b.Put(\"hi\"); b.Put(\"hi\"); b.Put(\"hi\"); b.Put(\"hi\");
+    b.Put(\"hi\"); b.Put(\"hi\"); b.Put(\"hi\"); b.Put(\"hi\"); b.Put(\"hi\");
+    Console.WriteLine(b.Get());
+  }
+}
+";
+
+/// Twenty messages of which each begins a body: a run of 16 entries ends while some have not begun.
+pub(crate) const FIRINGS_PAST_16: &str = "class A { public async a() { } }
+class P { static void Main() { A o = new A(); int i = 0; while (i < 20) { o.a(); i = i + 1; } } }
+";
+
 /// An asynchronous body divides by 0, beside `Main`.
 pub(crate) const DIVIDES_BESIDE_MAIN: &str =
     "class A { public async Bad(int n) { Console.WriteLine(1 / n); } }

@@ -1,5 +1,7 @@
 //! The top call on whole sources: what is written, the status, and what the report has.
-use crate::sources::{DIVIDES_BESIDE_MAIN, READERS_AND_WRITERS};
+use crate::sources::{
+    BUFFER, DIVIDES_BESIDE_MAIN, FIRINGS_PAST_16, PUTS_PAST_16, READERS_AND_WRITERS,
+};
 use crate::{Gate, Refusal, Report, chord};
 use chord_io::{MemSink, MemSource};
 use std::alloc::{AllocError, Global};
@@ -227,20 +229,26 @@ fn runs(rt: HostRuntime) -> Result<(), Fail> {
 pub(crate) struct Played {
     pub(crate) name: &'static str,
     pub(crate) source: &'static str,
+    /// The words that limit its entries, if any do, behind a blank.
+    pub(crate) limit: &'static str,
     pub(crate) written: &'static str,
     pub(crate) status: u8,
     /// The number of entries of its journal.
     pub(crate) entries: usize,
+    /// The chord of each of its firings, where they are all of one.
+    pub(crate) chord: Option<u16>,
 }
 
-pub(crate) const PLAYED: [Played; 8] = [
+pub(crate) const PLAYED: [Played; 12] = [
     Played {
         name: "empty Main",
         source: "class P { static void Main() { } }
 ",
+        limit: "",
         written: "",
         status: 0,
         entries: 2,
+        chord: None,
     },
     Played {
         name: "a group overridden whole",
@@ -252,60 +260,124 @@ class B : A {
 }
 class Q { static void Main() { A x = new B(); x.a(); x.b(); } }
 ",
+        limit: "",
         written: "B\n",
         status: 0,
         entries: 8,
+        chord: Some(0),
     },
     Played {
         name: "a division by 0 in a method ends its caller",
         source: "class A { public int Div(int a, int b) { return a / b; } }
 class Q { static void Main() { A a = new A(); Console.WriteLine(\"before\"); Console.WriteLine(a.Div(1, 0)); Console.WriteLine(\"after\"); } }
 ",
+        limit: "",
         written: "before\n",
         status: 8,
         entries: 7,
+        chord: Some(0),
     },
     Played {
         name: "the turns of a body are used up",
         source: "class P { static void Main() { while (true) {} } }
 ",
+        limit: "",
         written: "",
         status: 8,
         entries: 2,
+        chord: None,
     },
     Played {
         name: "calls too deep",
         source: "class A { public int Go(int n) { return Go(n + 1); } }
 class P { static void Main() { new A().Go(1); } }
 ",
+        limit: "",
         written: "",
         status: 8,
         entries: 768,
+        chord: Some(0),
     },
     Played {
         name: "objects too deep",
         source: "class A { public A() { new A(); } }
 class P { static void Main() { new A(); } }
 ",
+        limit: "",
         written: "",
         status: 8,
         entries: 257,
+        chord: None,
     },
     Played {
         name: "a trap of an asynchronous body changes no other",
         source: DIVIDES_BESIDE_MAIN,
+        limit: "",
         written: "",
         status: 8,
         entries: 6,
+        chord: Some(0),
     },
     Played {
         name: "a lock of readers and writers",
         source: READERS_AND_WRITERS,
+        limit: "",
         written: "4\n",
         status: 0,
         entries: 70,
+        chord: None,
+    },
+    Played {
+        name: "a buffer",
+        source: BUFFER,
+        limit: "",
+        written: "hi\n",
+        status: 0,
+        entries: 8,
+        chord: Some(0),
+    },
+    Played {
+        name: "a Main that is parked",
+        source: "class Buffer { public string Get() & public async Put(string s) { return s; } }
+class Program { static void Main() { Buffer b = new Buffer(); Console.WriteLine(b.Get()); } }
+",
+        limit: "",
+        written: "",
+        status: 4,
+        entries: 3,
+        chord: None,
+    },
+    Played {
+        name: "puts that fill the journal",
+        source: PUTS_PAST_16,
+        limit: " --events 16",
+        written: "",
+        status: 6,
+        entries: 16,
+        chord: None,
+    },
+    Played {
+        name: "bodies that fill the journal",
+        source: FIRINGS_PAST_16,
+        limit: " --events 16",
+        written: "",
+        status: 6,
+        entries: 16,
+        chord: Some(0),
     },
 ];
+
+/// The top call of one thread, with these words behind a blank, if there are any.
+fn answer_alone<R: Threads + Wait + Sync>(
+    rt: &R,
+    alloc: Global,
+    more: &str,
+    source: MemSource,
+    sink: &mut MemSink,
+) -> Result<Report, AllocError> {
+    let words = format!(in alloc; "run --one{more}")?;
+    answer(rt, alloc, words.as_str(), source, sink)
+}
 
 #[test]
 fn programs(rt: HostRuntime) -> Result<(), Fail> {
@@ -314,7 +386,7 @@ fn programs(rt: HostRuntime) -> Result<(), Fail> {
         let bytes = Vec::from_slice(alloc, case.source.as_bytes())?;
         let source = MemSource::new(bytes, 4096, Vec::new(alloc));
         let mut sink = MemSink::new(alloc, 100, 4096, Vec::new(alloc))?;
-        let report = answer(&rt, alloc, "run --one", source, &mut sink)?;
+        let report = answer_alone(&rt, alloc, case.limit, source, &mut sink)?;
         let name = case.name;
         assert_eq!(rt; sink.taken(), case.written.as_bytes(), "{name}");
         assert_eq!(rt; report.status, case.status, "{name}");

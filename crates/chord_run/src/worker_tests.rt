@@ -1,7 +1,7 @@
 //! Runs that workers make: what they write, how many entries they have and of which bodies the gate is told, however many workers there are; and two bodies
 //! side by side.
 use crate::sources::{DIVIDES_BESIDE_MAIN, SANTA};
-use crate::tests::{PLAYED, words_of};
+use crate::tests::{Open, PLAYED, Played, words_of};
 use crate::{Gate, Report, chord};
 use chord_base::event::{End, Entry, Trap, What};
 use chord_base::value::Value;
@@ -11,9 +11,6 @@ use std::sync::Wait;
 use std::sync::atomic::{AtomicU64, Ordering};
 use std::test::Fail;
 use std::thread::{Threads, yield_now};
-
-/// How often the gate looks whether the other body has started.
-const LOOKS: u32 = 1_000_000;
 
 /// A gate counts the bodies of runs of no more entries than these.
 const MOST_ENTRIES: usize = 1024;
@@ -29,33 +26,6 @@ const WORDS: [&str; 5] = [
 const SIDE_BY_SIDE: &str = "class A { public async a() { } public async b() { } }
 class P { static void Main() { A o = new A(); o.a(); o.b(); } }
 ";
-
-/// A gate that holds the first body after `Main` until another one has started, and marks where none did.
-#[derive(Drop)]
-struct Meeting {
-    mains: AtomicU64,
-    others: AtomicU64,
-    missed: AtomicU64,
-}
-
-impl Gate for Meeting {
-    fn started(&self, body: u32) {
-        if body == 0 {
-            self.mains.fetch_add(1, Ordering::SeqCst);
-            return;
-        }
-        if self.others.fetch_add(1, Ordering::SeqCst) != 0 {
-            return;
-        }
-        for _ in 0..LOOKS {
-            if self.others.load(Ordering::SeqCst) > 1 {
-                return;
-            }
-            yield_now();
-        }
-        self.missed.fetch_add(1, Ordering::SeqCst);
-    }
-}
 
 /// A gate that counts how often it was told of each body of a short run.
 #[derive(Drop)]
@@ -73,8 +43,8 @@ impl Counting {
         Ok(Counting { told })
     }
 
-    /// Whether it was told of each body of the run that a report has once, and of nothing else. Where the run is full, a body whose firing was drawn may
-    /// not have begun.
+    /// Whether it was told of each body of the run that a report has once, and of nothing else. Where the run is full, a body that has no entry behind
+    /// its firing may not have begun.
     fn told_once(&self, report: &Report) -> bool {
         let entries = match &report.journal {
             Some(journal) => journal.entries(),
@@ -86,7 +56,8 @@ impl Counting {
                 Some(entry) => begins_a_body(&entry.what),
                 None => false,
             };
-            if told > begins as u64 || told < begins as u64 && report.status != 6 {
+            let began = begins && (report.status != 6 || went_on(entries, number));
+            if told > begins as u64 || told < began as u64 {
                 return false;
             }
         }
@@ -105,6 +76,42 @@ impl Gate for Counting {
 /// Whether an entry is the beginning of a body.
 fn begins_a_body(what: &What) -> bool {
     matches!(what, What::Begun | What::Fired(_, _, _, _))
+}
+
+/// Whether a body has an entry behind its beginning.
+fn went_on(entries: &[Entry], body: usize) -> bool {
+    for entry in entries {
+        if entry.body as usize == body && entry.number != entry.body {
+            return true;
+        }
+    }
+    false
+}
+
+/// A gate that holds the first body after `Main` until another one has started, and marks where none did.
+#[derive(Drop)]
+struct Meeting {
+    told: Counting,
+    /// How often it looks whether another body has started.
+    looks: u32,
+    others: AtomicU64,
+    missed: AtomicU64,
+}
+
+impl Gate for Meeting {
+    fn started(&self, body: u32) {
+        self.told.started(body);
+        if body == 0 || self.others.fetch_add(1, Ordering::SeqCst) != 0 {
+            return;
+        }
+        for _ in 0..self.looks {
+            if self.others.load(Ordering::SeqCst) > 1 {
+                return;
+            }
+            yield_now();
+        }
+        self.missed.fetch_add(1, Ordering::SeqCst);
+    }
 }
 
 /// The top call over memory.
@@ -132,28 +139,53 @@ fn entries_of(report: &Report) -> usize {
     }
 }
 
-/// A gate that holds nobody: two bodies have met already.
-fn open_gate() -> Meeting {
-    Meeting {
-        mains: AtomicU64::new(0),
-        others: AtomicU64::new(2),
-        missed: AtomicU64::new(0),
+/// The chord of each firing of a report's journal, where they are all of one.
+fn only_chord(report: &Report) -> Option<u16> {
+    let mut only: Option<u16> = None;
+    if let Some(journal) = &report.journal {
+        for entry in journal.entries() {
+            if let What::Fired(chord, _, _, _) = &entry.what {
+                let chord = *chord;
+                if only.unwrap_or(chord) != chord {
+                    return None;
+                }
+                only = Some(chord);
+            }
+        }
     }
+    only
+}
+
+/// Of a run of a program with these words: whether it writes what is due, its status, how many entries its table has drawn, of which chord its firings
+/// are, and whether the gate was told of each body once.
+fn observe<R: Threads + Wait + Sync>(
+    rt: &R,
+    alloc: Global,
+    words: &str,
+    case: &Played,
+) -> Result<(bool, u8, usize, Option<u16>, bool), AllocError> {
+    let limit = case.limit;
+    let words = format!(in alloc; "{words}{limit}")?;
+    let mut sink = MemSink::new(alloc, 100, 4096, Vec::new(alloc))?;
+    let gate = Counting::new(alloc)?;
+    let report = answer(rt, alloc, words.as_str(), case.source, &mut sink, &gate)?;
+    Ok((
+        sink.taken() == case.written.as_bytes(),
+        report.status,
+        entries_of(&report),
+        only_chord(&report),
+        gate.told_once(&report),
+    ))
 }
 
 #[test]
 fn workers_make_the_runs(rt: HostRuntime) -> Result<(), Fail> {
     for words in &WORDS {
         for case in &PLAYED {
-            let alloc = rt.alloc();
-            let mut sink = MemSink::new(alloc, 100, 4096, Vec::new(alloc))?;
-            let gate = Counting::new(alloc)?;
-            let report = answer(&rt, alloc, words, case.source, &mut sink, &gate)?;
+            let found = observe(&rt, rt.alloc(), words, case)?;
+            let wanted = (true, case.status, case.entries, case.chord, true);
             let name = case.name;
-            assert_eq!(rt; sink.taken(), case.written.as_bytes(), "{name}");
-            assert_eq!(rt; report.status, case.status, "{name}");
-            assert_eq!(rt; entries_of(&report), case.entries, "{name}");
-            assert!(rt; gate.told_once(&report), "{name}");
+            assert_eq!(rt; found, wanted, "{name}: {words}");
         }
     }
     Ok(())
@@ -210,30 +242,50 @@ fn lines_like(taken: &[u8], wanted: &[u8]) -> u32 {
     like
 }
 
+/// What a run of Santa leaves behind, whoever makes it: four lines in whatever order, told by the bytes of all together and by how many are of each kind,
+/// the status, and the kinds of its entries.
+type Delivered = (usize, u32, u32, u8, Kinds);
+
+const DELIVERED: Delivered = (
+    20 + 3 * 18,
+    1,
+    3,
+    0,
+    Kinds {
+        begun: 1,
+        made: 2,
+        sent: 63,
+        called: 4,
+        fired: 42,
+        printed: 4,
+        ended: 43,
+    },
+);
+
+/// What a run of Santa with these words leaves behind, how many entries its table has drawn, and whether the gate was told of each body once.
+fn observe_santa<R: Threads + Wait + Sync>(
+    rt: &R,
+    alloc: Global,
+    words: &str,
+) -> Result<(Delivered, usize, bool), AllocError> {
+    let mut sink = MemSink::new(alloc, 100, 4096, Vec::new(alloc))?;
+    let gate = Counting::new(alloc)?;
+    let report = answer(rt, alloc, words, SANTA, &mut sink, &gate)?;
+    let toys = lines_like(sink.taken(), b"Santa delivers toys");
+    let elves = lines_like(sink.taken(), b"Santa meets elves");
+    let written = sink.taken().len();
+    let delivered = (written, toys, elves, report.status, kinds_of(&report));
+    Ok((delivered, entries_of(&report), gate.told_once(&report)))
+}
+
 #[test]
 fn santa(rt: HostRuntime) -> Result<(), Fail> {
+    // one thread has no table and tells no gate
+    let (alone, _, _) = observe_santa(&rt, rt.alloc(), "run --one")?;
+    assert_eq!(rt; alone, DELIVERED);
     for words in &WORDS {
-        let alloc = rt.alloc();
-        let mut sink = MemSink::new(alloc, 100, 4096, Vec::new(alloc))?;
-        let gate = Counting::new(alloc)?;
-        let report = answer(&rt, alloc, words, SANTA, &mut sink, &gate)?;
-        // four lines, in whatever order
-        assert_eq!(rt; sink.taken().len(), 20 + 3 * 18);
-        assert_eq!(rt; lines_like(sink.taken(), b"Santa delivers toys"), 1);
-        assert_eq!(rt; lines_like(sink.taken(), b"Santa meets elves"), 3);
-        assert_eq!(rt; report.status, 0);
-        assert_eq!(rt; entries_of(&report), 159);
-        let wanted = Kinds {
-            begun: 1,
-            made: 2,
-            sent: 63,
-            called: 4,
-            fired: 42,
-            printed: 4,
-            ended: 43,
-        };
-        assert_eq!(rt; kinds_of(&report), wanted, "{words}");
-        assert!(rt; gate.told_once(&report), "{words}");
+        let together = observe_santa(&rt, rt.alloc(), words)?;
+        assert_eq!(rt; together, (DELIVERED, 159, true), "{words}");
     }
     Ok(())
 }
@@ -268,14 +320,7 @@ fn ends_beside_main<R: Threads + Wait + Sync>(
     words: &str,
 ) -> Result<(usize, usize, usize), AllocError> {
     let mut sink = MemSink::new(alloc, 100, 4096, Vec::new(alloc))?;
-    let report = answer(
-        rt,
-        alloc,
-        words,
-        DIVIDES_BESIDE_MAIN,
-        &mut sink,
-        &open_gate(),
-    )?;
+    let report = answer(rt, alloc, words, DIVIDES_BESIDE_MAIN, &mut sink, &Open)?;
     Ok(ends_of(&report))
 }
 
@@ -296,7 +341,7 @@ fn a_sink_that_fails_at_its_second_write(rt: HostRuntime) -> Result<(), Fail> {
         let alloc = rt.alloc();
         let fails = Vec::from_slice(alloc, &[2])?;
         let mut sink = MemSink::new(alloc, 100, 4096, fails)?;
-        let report = answer(&rt, alloc, words, SANTA, &mut sink, &open_gate())?;
+        let report = answer(&rt, alloc, words, SANTA, &mut sink, &Open)?;
         let taken = sink.taken();
         let lines = ["Santa delivers toys\n", "Santa meets elves\n"];
         let is_line = taken == lines[0].as_bytes() || taken == lines[1].as_bytes();
@@ -329,7 +374,7 @@ fn a_large_program_of_few_events(rt: HostRuntime) -> Result<(), Fail> {
     for words in &LOADS_OF_FEW_EVENTS {
         let alloc = rt.alloc();
         let mut sink = MemSink::new(alloc, 200, 4096, Vec::new(alloc))?;
-        let report = answer(&rt, alloc, words, "", &mut sink, &open_gate())?;
+        let report = answer(&rt, alloc, words, "", &mut sink, &Open)?;
         // no line stands before the line of counts
         assert!(rt; sink.taken().starts_with(b"begun 1 made "), "{words}");
         assert!(rt; sink.taken().ends_with(b"\n"), "{words}");
@@ -343,26 +388,44 @@ fn a_large_program_of_few_events(rt: HostRuntime) -> Result<(), Fail> {
     Ok(())
 }
 
-#[test]
-fn two_bodies_side_by_side(rt: HostRuntime) -> Result<(), Fail> {
-    let alloc = rt.alloc();
+/// Words, how often the gate looks whether the other body has started, and how often none had: one worker plays no second body beside the first.
+const MEETINGS: [(&str, u32, u64); 5] = [
+    ("run --workers 1", 1000, 1),
+    ("run --workers 2", 1_000_000, 0),
+    ("run --workers 4", 1_000_000, 0),
+    ("run --workers 8", 1_000_000, 0),
+    ("run --workers 64", 1_000_000, 0),
+];
+
+/// Of a run in which two bodies should meet: its status, of how many bodies beside `Main` the gate was told, how often it missed one, and whether it was
+/// told of each once.
+fn observe_meeting<R: Threads + Wait + Sync>(
+    rt: &R,
+    alloc: Global,
+    words: &str,
+    looks: u32,
+) -> Result<(u8, u64, u64, bool), AllocError> {
     let gate = Meeting {
-        mains: AtomicU64::new(0),
+        told: Counting::new(alloc)?,
+        looks,
         others: AtomicU64::new(0),
         missed: AtomicU64::new(0),
     };
     let mut sink = MemSink::new(alloc, 100, 4096, Vec::new(alloc))?;
-    let report = answer(
-        &rt,
-        alloc,
-        "run --workers 4",
-        SIDE_BY_SIDE,
-        &mut sink,
-        &gate,
-    )?;
-    assert_eq!(rt; report.status, 0);
-    assert_eq!(rt; gate.mains.load(Ordering::SeqCst), 1);
-    assert_eq!(rt; gate.others.load(Ordering::SeqCst), 2);
-    assert_eq!(rt; gate.missed.load(Ordering::SeqCst), 0);
+    let report = answer(rt, alloc, words, SIDE_BY_SIDE, &mut sink, &gate)?;
+    Ok((
+        report.status,
+        gate.others.load(Ordering::SeqCst),
+        gate.missed.load(Ordering::SeqCst),
+        gate.told.told_once(&report),
+    ))
+}
+
+#[test]
+fn two_bodies_side_by_side(rt: HostRuntime) -> Result<(), Fail> {
+    for (words, looks, missed) in &MEETINGS {
+        let found = observe_meeting(&rt, rt.alloc(), words, *looks)?;
+        assert_eq!(rt; found, (0, 2, *missed, true), "{words}");
+    }
     Ok(())
 }

@@ -154,14 +154,17 @@ fn names_the_least_wrong_line(rt: HostRuntime) -> Result<(), Fail> {
     Ok(())
 }
 
-/// The line at which the buffer's text is wrong without its last byte.
-fn unended(alloc: Global) -> Option<u32> {
-    wrong_line(alloc, BUFFER.strip_suffix("\n").unwrap_or(""))
+/// The line at which the buffer's text is wrong without this end.
+fn without(alloc: Global, end: &str) -> Option<u32> {
+    wrong_line(alloc, BUFFER.strip_suffix(end).unwrap_or(""))
 }
 
 #[test]
 fn names_the_line_of_a_change(rt: HostRuntime) -> Result<(), Fail> {
-    is_wrong_at(&rt, "no end of the last line", unended(rt.alloc()), Some(8));
+    let unended = without(rt.alloc(), "\n");
+    is_wrong_at(&rt, "no end of the last line", unended, Some(8));
+    let cut_off = without(rt.alloc(), "7 0 ended u\n");
+    is_wrong_at(&rt, "no last line", cut_off, Some(8));
     let another_number = changed(rt.alloc(), "2 0 sent", "3 0 sent")?;
     is_wrong_at(&rt, "another number", another_number, Some(3));
     let leading_zero = changed(rt.alloc(), "journal 1 8", "journal 1 08")?;
