@@ -1,12 +1,14 @@
 -- Rounds of a player, one after the other, and turns of the first worker alone.
-use Rattle.std.proofs.Common.{◌≡◌, ℕ, List, [], ◌∷◌, ◌++◌, refl, sym, ◌∙◌, subst}
+use Rattle.std.proofs.Common.{◌≡◌, ℕ, List, [], ◌∷◌, ◌++◌, refl, sym, ap, ◌∙◌, subst}
+use Rattle.chord_roll.specs.Cards.{counts, IsSameCard}
 use Rattle.chord_space.specs.declared.space.Space.{Space}
 use Rattle.chord_space.specs.Desks.{view}
 use Rattle.chord_task.specs.declared.parcel.Opened.{Opened as Parcel}
 use Rattle.chord_worker.specs.declared.worker.Worker.{Worker}
+use Rattle.chord_worker.specs.Resting.{IsSameRole}
 use Rattle.chord_worker.specs.Stepping.{StillPlays}
 use Rattle.chord_pool.specs.declared.player.Player.{Player}
-use Rattle.chord_pool.specs.Players.{HadARound, StandsStill, IsBetweenRounds, AreRounds, HadRounds, HasLeftOff, HaveAllLeftOff}
+use Rattle.chord_pool.specs.Players.{HadARound, StandsStill, IsBetweenRounds, AreRounds, HadRounds, HasLeftOff, HaveAllLeftOff, IsSettled, MayPlay, PlaysOn, CountsIfItPlays}
 use Rattle.chord_pool.specs.declared.ending.Alone.{Alone}
 use Rattle.chord_pool.specs.Ending.{HadATurn, AreTurns, HadTurns, HasLeftOffAlone}
 
@@ -43,6 +45,23 @@ one_round_more knows s x y z had one = record { after_each = z ∷ had.after_eac
 -- and one that has had several more
 pub more_rounds : (knows : ℕ → Type 0) (s : Space Parcel) (x y z : Player) → HadRounds knows s x y → HadRounds knows s y z → HadRounds knows s x z
 more_rounds knows s x y z had later = record { after_each = later.after_each ++ had.after_each; rounds = rounds_behind knows s x y z had.after_each later.after_each had.rounds later.rounds }
+
+-- nothing happens behind rounds
+pub rounds_and_between : (knows : ℕ → Type 0) (s : Space Parcel) (x y z : Player) → HadRounds knows s x y → IsBetweenRounds y z → HadRounds knows s x z
+rounds_and_between knows s x y z had same = record { after_each = had.after_each; rounds = rounds_stay knows s x y z had.after_each had.rounds same }
+
+-- between two rounds a player may go on as before
+pub may_between : (s : Space Parcel) (y z : Player) → IsBetweenRounds y z → z.failed ≡ y.failed → MayPlay s y → MayPlay s z
+may_between s y z same failed may = λ sane. subst (IsSettled s) (sym same.worker) (may (sym failed ∙ sane))
+
+-- and counts if it plays
+pub counts_between : (y z : Player) → IsBetweenRounds y z → counts z.card ≡ counts y.card → CountsIfItPlays y → CountsIfItPlays z
+counts_between y z same as_before so = λ has. as_before ∙ so (λ none. has (ap (λ (w : Worker). w.task) same.worker ∙ none))
+
+-- at the same desk, with the same card
+pub plays_on_between : (x y z : Player) → PlaysOn x y → IsBetweenRounds y z → z.failed ≡ y.failed → IsSameCard y.card z.card → PlaysOn x z
+plays_on_between x y z on same failed card =
+    ((card.0 ∙ on.0.0, card.1 ∙ on.0.1), λ sane. subst (λ (w : Worker). IsSameRole (view x.worker.desk) (view w.desk)) (sym same.worker) (on.1 (sym failed ∙ sane)))
 
 -- a player that leaves off is where it was, if it has not failed
 pub left_off_there : (knows : ℕ → Type 0) (s : Space Parcel) (x y : Player) → HadRounds knows s x y → HasLeftOff knows s x y

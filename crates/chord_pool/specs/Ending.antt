@@ -11,7 +11,7 @@ use Rattle.chord_task.specs.declared.task.Task.{Task}
 use Rattle.chord_word.specs.declared.cells.Word.{Word}
 use Rattle.chord_worker.specs.declared.worker.Worker.{Worker}
 use Rattle.chord_worker.specs.Resting.{IsAtRest}
-use Rattle.chord_worker.specs.Stepping.{HasGoneOn, PlaysNext, PlaysFiring, StillPlays}
+use Rattle.chord_worker.specs.Stepping.{DrewAStep, HasGoneOn, PlaysNext, PlaysFiring, StillPlays}
 use Rattle.chord_pool.specs.declared.ending.Alone.{Alone}
 use Rattle.chord_pool.specs.Players.{IsSettled, IsUnready, LookedThrough}
 
@@ -42,10 +42,11 @@ pub record HasGoneBack (s : Space Parcel) (x y : Alone) : Type 0 where
 abbrev pub HasLookedAlone : (ℕ → Type 0) → Space Parcel → Alone → Alone → Type 0
 HasLookedAlone knows s x y = ((x.place ≤ y.place) × IsStirred knows y.place x.worker y.worker) ⊎ HasGoneBack s x y
 
--- the first worker, alone, went on with its task, plays no other one but a body of which the gate knows, and stands where it stood, or it looked for a firing
+-- the first worker, alone, went on with its task, drew entries of the body on top and at most one firing, plays no other task but a body of which the gate knows, and stands where it stood, or it looked for a firing
 pub record HadATurn (knows : ℕ → Type 0) (s : Space Parcel) (x y : Alone) : Type 0 where
   pub went : (t : Task) → x.worker.task ≡ Some t → HasGoneOn (view x.worker.desk).kept t y.worker
   pub plays : (t : Task) → x.worker.task ≡ Some t → PlaysNext knows (view x.worker.desk).kept t y.worker
+  pub drew : (t : Task) → x.worker.task ≡ Some t → DrewAStep t (view x.worker.desk).draws (view y.worker.desk).draws
   pub stands : (t : Task) → x.worker.task ≡ Some t → y.place ≡ x.place
   pub looked : x.worker.task ≡ None → HasLookedAlone knows s x y
 

@@ -18,7 +18,7 @@ use Rattle.chord_word.specs.declared.cells.Cell.TheVariants.{Ready}
 use Rattle.chord_word.specs.declared.cells.Word.{Word}
 use Rattle.chord_worker.specs.declared.worker.Worker.{Worker}
 use Rattle.chord_worker.specs.Resting.{IsAtRest, IsSameRole}
-use Rattle.chord_worker.specs.Stepping.{HasGoneOn, PlaysNext, PlaysFiring, StillPlays}
+use Rattle.chord_worker.specs.Stepping.{DrewAStep, HasGoneOn, PlaysNext, PlaysFiring, StillPlays}
 use Rattle.chord_pool.specs.declared.player.Player.{Player}
 
 -- the code and the limits are those of the space, and its runs are those of a sound program
@@ -162,10 +162,11 @@ pub record HasFoundNone (s : Space Parcel) (x y : Player) : Type 0 where
 abbrev pub HasLooked : (ℕ → Type 0) → Space Parcel → Player → Player → Type 0
 HasLooked knows s x y = HasFound knows x y ⊎ HasFoundNone s x y
 
--- a player went on with its task, plays no other one but a body of which the gate knows, and stands where it stood, or it looked for a firing
+-- a player went on with its task, drew entries of the body on top and at most one firing, plays no other task but a body of which the gate knows, and stands where it stood, or it looked for a firing
 pub record HadARound (knows : ℕ → Type 0) (s : Space Parcel) (x y : Player) : Type 0 where
   pub went : (t : Task) → x.worker.task ≡ Some t → HasGoneOn (view x.worker.desk).kept t y.worker
   pub plays : (t : Task) → x.worker.task ≡ Some t → PlaysNext knows (view x.worker.desk).kept t y.worker
+  pub drew : (t : Task) → x.worker.task ≡ Some t → DrewAStep t (view x.worker.desk).draws (view y.worker.desk).draws
   pub stands : (t : Task) → x.worker.task ≡ Some t → StandsStill x y
   pub looked : x.worker.task ≡ None → HasLooked knows s x y
 

@@ -7,6 +7,7 @@
 
 mod closing;
 mod crew;
+mod crowd;
 mod ending;
 mod pause;
 mod player;

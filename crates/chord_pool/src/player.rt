@@ -5,9 +5,10 @@ ghost use Rattle.chord_pool.specs.declared.player.Player.{Player as ThePlayer};
 ghost use Rattle.chord_space.specs.Desks.{view};
 ghost use Rattle.chord_task.specs.declared.task.Task.{Task as TheTask};
 ghost use Rattle.chord_worker.specs.Resting.{IsSameRole};
-ghost use Rattle.chord_worker.specs.Stepping.{HasGoneOn, PlaysNext, PlaysFiring, StillPlays};
-ghost use Rattle.chord_pool.specs.Players.{IsOneRun, IsFit, AreUnready, FoundNoneBelow, FoundNone, SawUnready, LookedOnce, LookedThrough, KnowsCount, HasStarted, StandsStill, BeginsLook, HasLooked, HadARound, HadRounds, HasLeftOff, MayPlay, HasPlayed, PlaysOn, IsOnTheWay, CountsIfItPlays, TellsIfItFails};
+ghost use Rattle.chord_worker.specs.Stepping.{DrewAStep, HasGoneOn, PlaysNext, PlaysFiring, StillPlays};
+ghost use Rattle.chord_pool.specs.Players.{IsOneRun, IsFit, AreUnready, FoundNoneBelow, FoundNone, SawUnready, LookedOnce, LookedThrough, KnowsCount, HasStarted, StandsStill, BeginsLook, HasLooked, HadARound, HadRounds, IsBetweenRounds, HasLeftOff, MayPlay, HasPlayed, PlaysOn, IsOnTheWay, CountsIfItPlays, TellsIfItFails};
 
+use crate::crowd::Crowd;
 use crate::pause::Pause;
 use crate::run::Run;
 use chord_roll::Card;
@@ -37,7 +38,7 @@ const NEAR: u32 = 256;
 /// One of so many looks that found nothing is followed by one over all numbers.
 const FAR_LOOK: u32 = 32;
 /// How many rounds a worker plays for one turn of the loop without end.
-const ROUNDS: u32 = 1024;
+const ROUNDS: u32 = 128;
 
 /// Starts the firing of number i where it is ready still, by a worker that counts among those at work: so nobody finds neither the firing
 /// nor anybody at work. Whether it plays it now.
@@ -209,6 +210,7 @@ impl Player {
         ensures told { TellsIfItFails self.new }
         ensures went { result ≡ true → (t : TheTask) → self.old.worker.task ≡ Some t → HasGoneOn (view self.old.worker.desk).kept t self.new.worker }
         ensures plays { result ≡ true → (t : TheTask) → self.old.worker.task ≡ Some t → PlaysNext G.knows (view self.old.worker.desk).kept t self.new.worker }
+        ensures drew { (t : TheTask) → self.old.worker.task ≡ Some t → DrewAStep t (view self.old.worker.desk).draws (view self.new.worker.desk).draws }
         ensures stands { result ≡ true → StandsStill self.old self.new }
     {
         match self
@@ -447,6 +449,19 @@ impl Player {
     }
 }
 
+impl Player {
+    /// Between rounds a worker with a task stands aside for a moment where many draw numbers at once.
+    fn give_way<R: Wait>(&mut self, rt: &R, crowd: &mut Crowd)
+        ensures between { IsBetweenRounds self.old self.new }
+        ensures same { self.new.failed ≡ self.old.failed }
+        ensures card { IsSameCard self.old.card self.new.card × (counts self.new.card ≡ counts self.old.card) × (stops self.new.card ≡ stops self.old.card) }
+    {
+        if self.worker.has_task() {
+            crowd.stand_aside(rt, &self.worker, &mut self.card);
+        }
+    }
+}
+
 /// A worker plays until the run is full, or one of the workers met want of memory, or it finds no firing to start among all numbers,
 /// and has read that nobody is at work.
 pub(crate) fn work<'a, R: Wait, G: Gate>(
@@ -468,11 +483,13 @@ pub(crate) fn work<'a, R: Wait, G: Gate>(
 {
     let mut player = player;
     let pause = Pause::new();
+    let mut crowd = Crowd::new();
     for _ in rt.forever() {
         if !player.rounds(rt, alloc, run, gate, &pause) {
             player.leave();
             return player;
         }
+        player.give_way(rt, &mut crowd);
     }
     unreachable!()
 }

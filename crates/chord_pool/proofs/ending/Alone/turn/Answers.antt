@@ -8,6 +8,7 @@ returns-clause-went g c = λ more.
     record {
       went = search rules;
       plays = search rules;
+      drew = search rules;
       stands = search rules;
       looked = λ none.
           looked_since g.G.Gate.knows c.args.run.now.space.now c.args.self.now _ c.look.new.self none refl (ap (λ (v : View). v.kept) c.count-count.ensures.counted.2) (ap (λ (v : View). v.looked.seen) c.count-count.ensures.counted.2) (c.look.ensures.looked more);

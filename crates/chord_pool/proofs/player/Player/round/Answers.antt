@@ -7,6 +7,7 @@ returns-clause-went g c = λ more.
     record {
       went = search rules;
       plays = search rules;
+      drew = search rules;
       stands = search rules;
       looked = λ none. looked_by g.G.Gate.knows c.args.run.now.space.now c.args.self.now c.idle.new.self c.has_stopped.new.self c.has_stopped.ensures.same.2 (c.idle.ensures.looked more);
     }
