@@ -1,4 +1,4 @@
-//! A worker stands aside for a moment where many draw numbers at once. No clause rests on it.
+//! Where workers crowd at the counter, one that draws less than its share stands aside for a moment. No clause rests on it.
 ghost use Rattle.std.specs.Prelude.{◌≡◌};
 ghost use Rattle.chord_roll.specs.Cards.{counts, stops, IsSameCard};
 
@@ -8,26 +8,26 @@ use std::sync::Wait;
 
 /// How long a worker stands aside, in microseconds.
 const ASIDE_MICROS: u64 = 100;
-/// So many numbers that all draw in that time are many.
+/// How many numbers are drawn in that time where workers crowd.
 const MANY: u32 = 800;
-/// How many turns go by without a trial where one was in vain.
-const TRUCE: u32 = 64;
+/// How many spells a worker plays on after it stood aside and there was no crowd.
+const CALM: u32 = 64;
 
-/// How far a worker had come at its last turn.
+/// How a worker came on in its last spell, which is so many rounds.
 ///
-/// Where workers draw numbers in turn, each draw waits for the line of the counter, which goes from processor to processor: two take more
-/// time together than one after the other. So a worker that draws less than its share stands aside. Its absence is a clock as well: where
-/// the others draw few numbers meanwhile, bodies compute more than they draw, nobody is in the way, and it stays for the turns that follow.
+/// Where workers draw numbers in turn, each draw waits until the line of the counter has come from another processor: together they
+/// take more time than one after the other. So a worker that draws less than its share stands aside. How many numbers the others draw
+/// meanwhile tells how quick they are: where these are few, bodies compute more than they draw, and no worker is in another's way.
 #[derive(Drop)]
 pub(crate) struct Crowd {
-    /// How many entries it had drawn.
+    /// How many entries the worker had drawn.
     drew: usize,
     /// The number of the newest one.
     newest: u32,
     /// Whether it stood aside then.
     was_aside: bool,
-    /// How many turns it stays.
-    truce: u32,
+    /// How many more spells it plays on.
+    calm: u32,
 }
 
 impl Crowd {
@@ -37,37 +37,37 @@ impl Crowd {
             drew: 0,
             newest: 0,
             was_aside: false,
-            truce: 0,
+            calm: 0,
         }
     }
 
-    /// How many numbers the worker drew since its last turn, and how many all did, as far as it can tell.
-    fn catch_up(&mut self, worker: &Worker) -> (usize, u32) {
+    /// How many numbers the worker drew in this spell, and how many all did from its first to its last one.
+    fn catch_up(&mut self, worker: &Worker) -> (usize, usize) {
         let draws = worker.draws();
         let mine = draws.len().saturating_sub(self.drew);
-        let (Some(first), Some(newest)) = (draws.get(self.drew), draws.last()) else {
+        let (Some(first), Some(last)) = (draws.get(self.drew), draws.last()) else {
             return (0, 0);
         };
-        let all = newest.number.saturating_sub(first.number);
-        if self.was_aside && first.number.saturating_sub(self.newest) < MANY {
-            self.truce = TRUCE;
+        let (first, last) = (first.number, last.number);
+        if self.was_aside && first.saturating_sub(self.newest) < MANY {
+            self.calm = CALM;
         }
         self.drew = draws.len();
-        self.newest = newest.number;
-        (mine, all)
+        self.newest = last;
+        (mine, last.saturating_sub(first) as usize)
     }
 
-    /// Stands aside for a moment, if the worker draws less than its share.
+    /// The worker has played a spell, and stands aside for a moment if it drew less than its share.
     pub(crate) fn stand_aside<R: Wait>(&mut self, rt: &R, worker: &Worker, card: &mut Card)
         ensures card { IsSameCard card.old card.new × (counts card.new ≡ counts card.old) × (stops card.new ≡ stops card.old) }
     {
         let (mine, all) = self.catch_up(worker);
         self.was_aside = false;
-        if self.truce > 0 {
-            self.truce -= 1;
+        if self.calm > 0 {
+            self.calm -= 1;
             return;
         }
-        if all as usize / 2 <= mine {
+        if all / 2 <= mine {
             return;
         }
         let working = card.read();

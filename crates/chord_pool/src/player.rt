@@ -37,8 +37,8 @@ pub(crate) struct Player {
 const NEAR: u32 = 256;
 /// One of so many looks that found nothing is followed by one over all numbers.
 const FAR_LOOK: u32 = 32;
-/// How many rounds a worker plays for one turn of the loop without end.
-const ROUNDS: u32 = 128;
+/// How many rounds a worker plays in a spell, which is one turn of the loop without end.
+const ROUNDS: u32 = 64;
 
 /// Starts the firing of number i where it is ready still, by a worker that counts among those at work: so nobody finds neither the firing
 /// nor anybody at work. Whether it plays it now.
@@ -409,7 +409,7 @@ impl Player {
         self.idle(rt, run, gate, pause)
     }
 
-    /// Many rounds. Whether the worker goes on.
+    /// A spell of rounds. Whether the worker goes on.
     ///
     /// `forever` counts its turns, which takes some dozen instructions each time. Here it counts one for all of these. Whether the others stopped
     /// is asked once too, where the worker has a task all the while: the word lies beside one that all of them write.
@@ -450,7 +450,7 @@ impl Player {
 }
 
 impl Player {
-    /// Between rounds a worker with a task stands aside for a moment where many draw numbers at once.
+    /// Between two spells a worker with a task stands aside for a moment where many crowd at the counter.
     fn give_way<R: Wait>(&mut self, rt: &R, crowd: &mut Crowd)
         ensures between { IsBetweenRounds self.old self.new }
         ensures same { self.new.failed ≡ self.old.failed }
