@@ -6,25 +6,30 @@ use chord_roll::Card;
 use chord_worker::Worker;
 use std::sync::Wait;
 
-/// How long a worker stands aside, in microseconds.
+/// How long a worker stands aside at the least, in microseconds.
 const ASIDE_MICROS: u64 = 100;
-/// How many numbers are drawn in that time where workers crowd.
+/// So many numbers, or more, are given from its last draw before it stands aside to its first one afterwards, where workers crowd.
 const MANY: u32 = 800;
 /// How many spells a worker plays on after it stood aside and there was no crowd.
 const CALM: u32 = 64;
+/// A worker that drew at most one in so many of its share computes, waited for work or had no processor, and is in nobody's way.
+const FEW: u64 = 4;
 
-/// How a worker came on in its last spell, which is so many rounds.
+/// What a worker had drawn when its last spell ended, which is so many rounds.
 ///
-/// Where workers draw numbers in turn, each draw waits until the line of the counter has come from another processor: together they
+/// Where workers draw numbers in turns, each draw waits until the line of the counter has come from another processor: together they
 /// take more time than one after the other. So a worker that draws less than its share stands aside. How many numbers the others draw
 /// meanwhile tells how quick they are: where these are few, bodies compute more than they draw, and no worker is in another's way.
+///
+/// Those that stand aside count as at work. Nothing says that one plays on: where all are aside at once few numbers are drawn, and
+/// each then plays on for `CALM` spells.
 #[derive(Drop)]
 pub(crate) struct Crowd {
     /// How many entries the worker had drawn.
     drew: usize,
     /// The number of the newest one.
     newest: u32,
-    /// Whether it stood aside then.
+    /// Whether it slept then, as long as it was to.
     was_aside: bool,
     /// How many more spells it plays on.
     calm: u32,
@@ -41,8 +46,8 @@ impl Crowd {
         }
     }
 
-    /// How many numbers the worker drew in this spell, and how many all did from its first to its last one.
-    fn catch_up(&mut self, worker: &Worker) -> (usize, usize) {
+    /// How many numbers the worker drew in this spell, and how many were given after its first one, up to its last.
+    fn catch_up(&mut self, worker: &Worker) -> (usize, u32) {
         let draws = worker.draws();
         let mine = draws.len().saturating_sub(self.drew);
         let (Some(first), Some(last)) = (draws.get(self.drew), draws.last()) else {
@@ -54,26 +59,28 @@ impl Crowd {
         }
         self.drew = draws.len();
         self.newest = last;
-        (mine, last.saturating_sub(first) as usize)
+        (mine, last.saturating_sub(first))
     }
 
-    /// The worker has played a spell, and stands aside for a moment if it drew less than its share.
+    /// The worker has played a spell. If it has a task, and drew less than its share, it stands aside for a moment.
     pub(crate) fn stand_aside<R: Wait>(&mut self, rt: &R, worker: &Worker, card: &mut Card)
         ensures card { IsSameCard card.old card.new × (counts card.new ≡ counts card.old) × (stops card.new ≡ stops card.old) }
     {
         let (mine, all) = self.catch_up(worker);
+        let (mine, all) = (mine as u64, all as u64);
         self.was_aside = false;
         if self.calm > 0 {
             self.calm -= 1;
             return;
         }
-        if all / 2 <= mine {
+        if !worker.has_task() || all / 2 <= mine {
             return;
         }
         let working = card.read();
-        if working > 1 && all as u64 / working > mine as u64 {
+        if working > 1 && all / working > mine && all / working / FEW < mine {
             card.sleep(rt, working, ASIDE_MICROS);
-            self.was_aside = true;
+            // where another number are at work by now, the sleep may have ended at once, and tells nothing
+            self.was_aside = card.read() == working;
         }
     }
 }

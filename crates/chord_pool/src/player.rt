@@ -456,9 +456,7 @@ impl Player {
         ensures same { self.new.failed ≡ self.old.failed }
         ensures card { IsSameCard self.old.card self.new.card × (counts self.new.card ≡ counts self.old.card) × (stops self.new.card ≡ stops self.old.card) }
     {
-        if self.worker.has_task() {
-            crowd.stand_aside(rt, &self.worker, &mut self.card);
-        }
+        crowd.stand_aside(rt, &self.worker, &mut self.card);
     }
 }
 

@@ -235,7 +235,7 @@ pub(crate) struct Played {
     pub(crate) status: u8,
     /// The number of entries of its journal.
     pub(crate) entries: usize,
-    /// The chord of each of its firings, where they are all of one.
+    /// The chord of each firing that workers make; `None` where there is none, or they are of several.
     pub(crate) chord: Option<u16>,
 }
 

@@ -139,7 +139,7 @@ fn entries_of(report: &Report) -> usize {
     }
 }
 
-/// The chord of each firing of a report's journal, where they are all of one.
+/// The chord of each firing of a report's journal; `None` where there is no firing, or they are of several.
 fn only_chord(report: &Report) -> Option<u16> {
     let mut only: Option<u16> = None;
     if let Some(journal) = &report.journal {
