@@ -25,7 +25,7 @@ use Rattle.chord_worker.specs.declared.worker.Worker.{Worker}
 use Rattle.chord_worker.specs.Resting.{IsSameRole, IsSeen, beside_task}
 use Rattle.chord_pool.specs.declared.ending.Alone.{Alone}
 use Rattle.chord_pool.specs.Players.{IsFit, IsSettled, IsUnready, IsCrew, LookedThrough}
-use Rattle.chord_pool.specs.Ending.{AreAwake, IsLoneWorker, IsLast, IsRunOver, IsStirred, SawAsleep, HasLookedAlone}
+use Rattle.chord_pool.specs.Ending.{AreAwake, IsAloneWorker, IsLast, IsRunOver, IsStirred, SawAsleep, HasLookedAlone}
 use Rattle.chord_pool.proofs.Looking.{plays_since, through_once, through_from}
 
 -- the role of a desk stays over two steps
@@ -89,15 +89,15 @@ looked_since knows s x y z none place kept seen = ⊎_elim
     }))
 
 -- the first worker, alone, with nothing to play
-pub last_is_alone : (s : Space Parcel) (w : Worker) → IsLast s w → IsLoneWorker s w
+pub last_is_alone : (s : Space Parcel) (w : Worker) → IsLast s w → IsAloneWorker s w
 last_is_alone s w last = record { settled = record { rest = last.rest; over = λ _. last.task }; first = last.first; drawn = last.drawn; lent = last.lent }
 
 -- the first worker that has hired nobody is alone
-pub crew_is_alone : (s : Space Parcel) (w : Worker) → IsCrew s w [] → IsLoneWorker s w
+pub crew_is_alone : (s : Space Parcel) (w : Worker) → IsCrew s w [] → IsAloneWorker s w
 crew_is_alone s w crew = record { settled = crew.settled; first = crew.first; drawn = crew.drawn; lent = crew.lent }
 
 -- it is so still, in the role that it had
-pub stays_alone : (s : Space Parcel) (v w : Worker) → IsLoneWorker s v → IsSettled s w → IsSameRole (view v.desk) (view w.desk) → IsLoneWorker s w
+pub stays_alone : (s : Space Parcel) (v w : Worker) → IsAloneWorker s v → IsSettled s w → IsSameRole (view v.desk) (view w.desk) → IsAloneWorker s w
 stays_alone s v w was settled role = record { settled = settled; first = role.first ∙ was.first; drawn = role.drawn was.drawn; lent = role.lent ∙ was.lent }
 
 -- the first worker, alone and with nothing to play, may close where it looked at the counter, which is below the limit, and at each cell below

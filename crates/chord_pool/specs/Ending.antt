@@ -71,7 +71,7 @@ abbrev pub SawLimit : ℕ → View → Type 0
 SawLimit n v = (c : ℕ) × (v.looked.count ≡ Some c) × (min c n ≡ n)
 
 -- the first worker is alone and at rest, and has nothing to play where it was told that the limit is reached
-pub record IsLoneWorker (s : Space Parcel) (w : Worker) : Type 0 where
+pub record IsAloneWorker (s : Space Parcel) (w : Worker) : Type 0 where
   pub settled : IsSettled s w
   pub first : (view w.desk).first ≡ true
   pub drawn : (view w.desk).drawn ≡ true

@@ -210,9 +210,15 @@ HaveAllLeftOff knows s [] (y ∷ ys) = ⊥
 HaveAllLeftOff knows s (x ∷ xs) [] = ⊥
 HaveAllLeftOff knows s (x ∷ xs) (y ∷ ys) = HasLeftOff knows s x y × HaveAllLeftOff knows s xs ys
 
--- a player that was hired may go on, and has nothing to play yet
-abbrev pub IsHired : Space Parcel → Player → Type 0
-IsHired s x = MayPlay s x × (x.worker.task ≡ None) × (x.failed ≡ false)
+-- a player that was hired may go on, has nothing to play yet and does not count among those at work: it knows of no number, and none of its looks found none
+pub record IsHired (s : Space Parcel) (x : Player) : Type 0 where
+  pub may : MayPlay s x
+  pub task : x.worker.task ≡ None
+  pub sane : x.failed ≡ false
+  pub uncounted : counts x.card ≡ false
+  pub place : x.place ≡ 0
+  pub known : x.known ≡ 0
+  pub misses : x.misses ≡ 0
 
 -- each of these was hired
 abbrev pub AreHired : Space Parcel → List Player → Type 0

@@ -7,7 +7,7 @@ ghost use Rattle.chord_worker.specs.Resting.{IsSameRole, IsSeen};
 ghost use Rattle.chord_worker.specs.Stepping.{StillPlays};
 ghost use Rattle.chord_pool.specs.declared.ending.Alone.{Alone as TheAlone};
 ghost use Rattle.chord_pool.specs.Players.{IsOneRun, IsFit, IsUnready, LookedThrough};
-ghost use Rattle.chord_pool.specs.Ending.{AreAwake, IsStirred, HasLookedAlone, HadATurn, HadTurns, HasLeftOffAlone, IsLoneWorker, IsRunOver};
+ghost use Rattle.chord_pool.specs.Ending.{AreAwake, IsStirred, HasLookedAlone, HadATurn, HadTurns, HasLeftOffAlone, IsAloneWorker, IsRunOver};
 
 use crate::run::Run;
 use chord_word::Cell;
@@ -118,8 +118,8 @@ impl Alone {
         gate: &G,
     ) -> Result<bool, AllocError>
         requires run { IsOneRun run.now.space.now run.now.code.now run.now.limits.now }
-        requires worker { IsLoneWorker run.now.space.now self.old.worker }
-        ensures worker { OnOk result (IsLoneWorker run.now.space.now self.new.worker) }
+        requires worker { IsAloneWorker run.now.space.now self.old.worker }
+        ensures worker { OnOk result (IsAloneWorker run.now.space.now self.new.worker) }
         ensures role { OnOk result (IsSameRole (view self.old.worker.desk) (view self.new.worker.desk)) }
         ensures over { IfOk result (λ over. over ≡ true → IsRunOver run.now.space.now self.new.worker) }
         ensures went { IfOk result (λ over. over ≡ false → HadATurn G.knows run.now.space.now self.old self.new) }
@@ -149,8 +149,8 @@ impl Alone {
         gate: &G,
     ) -> Result<bool, AllocError>
         requires run { IsOneRun run.now.space.now run.now.code.now run.now.limits.now }
-        requires worker { IsLoneWorker run.now.space.now self.old.worker }
-        ensures worker { OnOk result (IsLoneWorker run.now.space.now self.new.worker) }
+        requires worker { IsAloneWorker run.now.space.now self.old.worker }
+        ensures worker { OnOk result (IsAloneWorker run.now.space.now self.new.worker) }
         ensures role { OnOk result (IsSameRole (view self.old.worker.desk) (view self.new.worker.desk)) }
         ensures over { IfOk result (λ over. over ≡ true → IsRunOver run.now.space.now self.new.worker) }
         ensures went { IfOk result (λ over. over ≡ false → (before : TheAlone) × HadTurns G.knows run.now.space.now self.old before × HadATurn G.knows run.now.space.now before self.new) }
@@ -179,7 +179,7 @@ pub(crate) fn play_alone<'a, R: Wait, G: Gate>(
     gate: &G,
 ) -> Result<Worker, AllocError>
     requires run { IsOneRun run.now.space.now run.now.code.now run.now.limits.now }
-    requires worker { IsLoneWorker run.now.space.now worker }
+    requires worker { IsAloneWorker run.now.space.now worker }
     ensures over { IfOk result (λ last. IsRunOver run.now.space.now last) }
     ensures off { IfOk result (λ last. (begin : TheAlone) × (begin.worker ≡ worker) × (begin.place ≡ 0) × HasLeftOffAlone G.knows run.now.space.now begin last) }
     ensures splits { IfOk result (λ last. (view last.desk).splits ≡ (view worker.desk).splits) }
