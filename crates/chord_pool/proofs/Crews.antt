@@ -18,14 +18,14 @@ use Rattle.chord_task.specs.declared.parcel.Opened.{Opened as Parcel}
 use Rattle.chord_worker.specs.declared.worker.Worker.{Worker}
 use Rattle.chord_worker.specs.Resting.{IsAtRest, IsSameRole}
 use Rattle.chord_pool.specs.declared.player.Player.{Player}
-use Rattle.chord_pool.specs.Players.{IsOneRun, HasPlayed, PlaysOn, HaveAllPlayed, AreOfRoll, AreCards, IsCrew, IsBack}
+use Rattle.chord_pool.specs.Players.{IsOneRun, HasPlayed, PlaysOn, HaveAllPlayed, AreOfRoll, AreCards, IsHired, IsCrew, IsBack}
 use Rattle.chord_pool.proofs.Handing.{hired_more}
 
 -- the first worker has lent one desk more, to a worker with nothing to play
 pub hired : (s : Space Parcel) (main after : Worker) (others : List Player) (one : Player) → IsCrew s main others → (view main.desk).splits ≡ length others
-    → IsAtRest s after → after.task ≡ main.task → view after.desk ≡ lent_one (view main.desk) → IsAtRest s one.worker → one.worker.task ≡ None → one.failed ≡ false
+    → IsAtRest s after → after.task ≡ main.task → view after.desk ≡ lent_one (view main.desk) → IsHired s one
     → IsCrew s after (others ++ one ∷ []) × ((view after.desk).splits ≡ length (others ++ one ∷ [])) × (length (others ++ one ∷ []) ≡ length others + 1)
-hired s main after others one crew splits rest task lent one_rest one_task one_sane =
+hired s main after others one crew splits rest task lent new =
     let long : length (others ++ one ∷ []) ≡ length others + 1 = length-append others (one ∷ []) in
     let more : (view after.desk).lent ≡ (view main.desk).lent + 1 = ap (λ (v : View). v.lent) lent in
     let count : (view after.desk).splits ≡ (view main.desk).splits + 1 = ap (λ (v : View). v.splits) lent in (
@@ -34,7 +34,7 @@ hired s main after others one crew splits rest task lent one_rest one_task one_s
         first = ap (λ (v : View). v.first) lent ∙ crew.first;
         drawn = ap (λ (v : View). v.drawn) lent ∙ crew.drawn;
         lent = (let was = crew.lent in omega (arith, more, long, was));
-        all = hired_more s others one crew.all ((λ sane. record { rest = one_rest; over = λ told. one_task }), one_task, one_sane);
+        all = hired_more s others one crew.all new;
       },
       omega (arith, count, long, splits),
       long,

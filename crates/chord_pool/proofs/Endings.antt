@@ -1,9 +1,11 @@
 -- What the first worker knows of the cells that it looked at, and when it may close.
-use Rattle.std.proofs.Common.{◌≡◌, ◌≢◌, ◌⊎◌, inl, inr, ⊎_elim, ℕ, ◌+◌, ◌<◌, ◌≤◌, true, false, [], Option, Some, None, is_some, min, refl, sym, ap, ◌∙◌, subst, arith}
+use Rattle.std.proofs.Common.{◌≡◌, ◌≢◌, ◌⊎◌, inl, inr, ⊎_elim, ℕ, ◌+◌, ◌<◌, ◌≤◌, true, false, List, [], ◌∷◌, ◌++◌, append_assoc, Option, Some, None, is_some, min, refl, sym, ap, ◌∙◌, subst, arith}
 use Rattle.std.proofs.lemmas.Option.{none-some}
 use mathlib.Core.Logic.{dite}
 use mathlib.Core.Path.{Path}
 use native.Mathlib.Decide.{ℕ_discrete}
+use Rattle.chord_rule.specs.declared.view.Look.{Look}
+use Rattle.chord_rule.specs.declared.view.Looked.{Looked}
 use Rattle.chord_rule.specs.declared.view.View.{View}
 use Rattle.chord_rule.specs.Closing.{IsAsleep, MayClose, AreQuiet}
 use Rattle.chord_rule.specs.Kinds.{saw}
@@ -24,9 +26,9 @@ use Rattle.chord_word.specs.declared.cells.Word.{Word}
 use Rattle.chord_worker.specs.declared.worker.Worker.{Worker}
 use Rattle.chord_worker.specs.Resting.{IsSameRole, IsSeen, beside_task}
 use Rattle.chord_pool.specs.declared.ending.Alone.{Alone}
-use Rattle.chord_pool.specs.Players.{IsFit, IsSettled, IsUnready, IsCrew, LookedThrough}
-use Rattle.chord_pool.specs.Ending.{AreAwake, IsLoneWorker, IsLast, IsRunOver, IsStirred, SawAsleep, HasLookedAlone}
-use Rattle.chord_pool.proofs.Looking.{plays_since, through_once, through_from}
+use Rattle.chord_pool.specs.Players.{AreAmong, IsFit, IsSettled, IsUnready, IsCrew, LookedThrough}
+use Rattle.chord_pool.specs.Ending.{AreAwake, HasComeTo, IsAloneWorker, IsLast, IsRunOver, IsStirred, SawAsleep, HasLookedAlone}
+use Rattle.chord_pool.proofs.Looking.{last_stays, among_more, plays_since, through_once, through_from}
 
 -- the role of a desk stays over two steps
 pub role_stays : (u v w : View) → IsSameRole u v → IsSameRole v w → IsSameRole u w
@@ -46,16 +48,66 @@ awake_unready c awake ready = awake (subst IsAsleep (sym ready) tt)
 pub through_awake : (v w : View) (i : ℕ) (x : Word) → IsSeen v w i x → (IsAsleep x.cell → ⊥) → LookedThrough i (i + 1) v w
 through_awake v w i x look awake = through_once v w i x (awake_unready x.cell awake) look.seen
 
--- a look at a cell that somebody has to look after, and in which no firing is ready
-pub stirred_by_look : (v w : View) (i : ℕ) (x : Word) → IsSeen v w i x → IsAsleep x.cell → x.cell ≢ Ready → SawAsleep i w.looked.seen × IsUnready i w.looked.seen
-stirred_by_look v w i x look asleep unready = (subst (SawAsleep i) (sym look.seen) (inl (refl, asleep)), (x, subst (LastSeen i x) (sym look.seen) (inl (refl, refl)), unready))
+-- what is known of no cell
+awake_none : (i : ℕ) (looks : List Look) → AreAwake i i looks
+awake_none i looks k above low = absurd (omega (arith, above, low))
 
--- a look at a firing that was ready, and then no longer, as its cell told
-pub stirred_by_start : (v u w : View) (i : ℕ) (x : Word) (c : Cell) (next : Option ℕ) → IsSeen v u i x → IsAsleep x.cell → c ≢ Ready → w ≡ saw u i (a_word c next) → SawAsleep i w.looked.seen × IsUnready i w.looked.seen
-stirred_by_start v u w i x c next look asleep unready told = (
-  subst (λ (z : View). SawAsleep i z.looked.seen) (sym told) (inr (subst (SawAsleep i) (sym look.seen) (inl (refl, asleep)))),
-  (a_word c next, subst (λ (z : View). LastSeen i (a_word c next) z.looked.seen) (sym told) (inl (refl, refl)), unready),
-)
+-- a look at a cell that somebody has to look after
+pub come_by_look : (v w : View) (i : ℕ) (x : Word) → IsSeen v w i x → IsAsleep x.cell → HasComeTo i i v w
+come_by_look v w i x look asleep = record {
+  onward = omega arith;
+  looks = record { number = i; word = x } ∷ [];
+  seen = look.seen;
+  among = (omega arith, omega arith, tt);
+  asleep = inl (refl, asleep);
+  before = awake_none i w.looked.seen;
+}
+
+-- a look at one, and one more at it
+pub come_by_start : (v u w : View) (i : ℕ) (x y : Word) → IsSeen v u i x → IsAsleep x.cell → w.looked ≡ (saw u i y).looked → HasComeTo i i v w
+come_by_start v u w i x y look asleep again = record {
+  onward = omega arith;
+  looks = record { number = i; word = y } ∷ record { number = i; word = x } ∷ [];
+  seen = ap (λ (l : Looked). l.seen) again ∙ ap (λ (l : List Look). record { number = i; word = y } ∷ l) look.seen;
+  among = (omega arith, omega arith, (omega arith, omega arith, tt));
+  asleep = inr (inl (refl, asleep));
+  before = awake_none i w.looked.seen;
+}
+
+-- cells that need not be looked after stay so, after looks at later ones alone
+awake_stay : (from i below : ℕ) (looks seen : List Look) → AreAmong i below looks → AreAwake from i seen → AreAwake from i (looks ++ seen)
+awake_stay from i below looks seen among was k above low = let r = was k above low in (r.0, last_stays k r.0 i below looks seen low among r.1, r.2)
+
+-- a cell that somebody has to look after, behind others that need not be
+pub come_on : (from i : ℕ) (u v w : View) → from ≤ i → AreAwake from i v.looked.seen → LookedThrough from i u v → HasComeTo i i v w → HasComeTo from i u w
+come_on from i u v w low awake was come = record {
+  onward = low;
+  looks = come.looks ++ was.looks;
+  seen = come.seen ∙ ap (λ (l : List Look). come.looks ++ l) was.seen ∙ sym (append_assoc come.looks was.looks u.looked.seen);
+  among = among_more from i come.looks was.looks low come.among was.among;
+  asleep = saw_more i come.looks was.looks come.asleep;
+  before = subst (AreAwake from i) (sym come.seen) (awake_stay from i (i + 1) come.looks v.looked.seen come.among awake);
+}
+  where
+    saw_more : (i : ℕ) (xs ys : List Look) → SawAsleep i xs → SawAsleep i (xs ++ ys)
+    saw_more i [] ys none = absurd none
+    saw_more i (x ∷ xs) ys (inl here) = inl here
+    saw_more i (x ∷ xs) ys (inr there) = inr (saw_more i xs ys there)
+
+-- after something that was no look at a cell
+pub come_since : (from to : ℕ) (u v w : View) → v.looked.seen ≡ u.looked.seen → HasComeTo from to v w → HasComeTo from to u w
+come_since from to u v w same come = record {
+  onward = come.onward;
+  looks = come.looks;
+  seen = come.seen ∙ ap (λ (l : List Look). come.looks ++ l) same;
+  among = come.among;
+  asleep = come.asleep;
+  before = come.before;
+}
+
+-- a look at a cell in which no firing is ready
+pub unready_by_look : (v w : View) (i : ℕ) (x : Word) → IsSeen v w i x → x.cell ≢ Ready → IsUnready i w.looked.seen
+unready_by_look v w i x look unready = (x, subst (LastSeen i x) (sym look.seen) (inl (refl, refl)), unready)
 
 -- a firing that was ready no longer, as its cell told
 pub unready_told : (u w : View) (i : ℕ) (c : Cell) (next : Option ℕ) → c ≢ Ready → w ≡ saw u i (a_word c next) → IsUnready i w.looked.seen
@@ -72,12 +124,15 @@ task_started (Some t) e h = none-some _ (sym h)
 
 -- a worker without a task that is stirred after looks, in which its desk kept what it kept
 pub stirred_since : (knows : ℕ → Type 0) (i : ℕ) (u v w : Worker) → u.task ≡ None → (view v.desk).kept ≡ (view u.desk).kept → IsStirred knows i v w → IsStirred knows i u w
-stirred_since knows i u v w none same = ⊎_elim (λ plays. inl (plays_since knows u v w i none same plays)) (λ saw_it. inr ((saw_it.0.0, saw_it.0.1 ∙ same), saw_it.1, saw_it.2))
+stirred_since knows i u v w none same = ⊎_elim (λ plays. inl (plays_since knows u v w i none same plays)) (λ still. inr ((still.0.0, still.0.1 ∙ same), still.1))
 
 -- a turn of the first worker alone that looked, after it looked at the counter
 pub looked_since : (knows : ℕ → Type 0) (s : Space Parcel) (x y z : Alone) → x.worker.task ≡ None → y.place ≡ x.place → (view y.worker.desk).kept ≡ (view x.worker.desk).kept → (view y.worker.desk).looked.seen ≡ (view x.worker.desk).looked.seen → HasLookedAlone knows s y z → HasLookedAlone knows s x z
 looked_since knows s x y z none place kept seen = ⊎_elim
-    (λ on. inl (subst (λ (n : ℕ). n ≤ z.place) place on.0, stirred_since knows z.place x.worker y.worker z.worker none kept on.1))
+    (λ on. inl (
+      subst (λ (n : ℕ). HasComeTo n z.place (view x.worker.desk) (view z.worker.desk)) place (come_since y.place z.place (view x.worker.desk) (view y.worker.desk) (view z.worker.desk) seen on.0),
+      stirred_since knows z.place x.worker y.worker z.worker none kept on.1,
+    ))
     (λ back. inr (record {
       count = back.count;
       counted = back.counted;
@@ -89,15 +144,15 @@ looked_since knows s x y z none place kept seen = ⊎_elim
     }))
 
 -- the first worker, alone, with nothing to play
-pub last_is_alone : (s : Space Parcel) (w : Worker) → IsLast s w → IsLoneWorker s w
+pub last_is_alone : (s : Space Parcel) (w : Worker) → IsLast s w → IsAloneWorker s w
 last_is_alone s w last = record { settled = record { rest = last.rest; over = λ _. last.task }; first = last.first; drawn = last.drawn; lent = last.lent }
 
 -- the first worker that has hired nobody is alone
-pub crew_is_alone : (s : Space Parcel) (w : Worker) → IsCrew s w [] → IsLoneWorker s w
+pub crew_is_alone : (s : Space Parcel) (w : Worker) → IsCrew s w [] → IsAloneWorker s w
 crew_is_alone s w crew = record { settled = crew.settled; first = crew.first; drawn = crew.drawn; lent = crew.lent }
 
 -- it is so still, in the role that it had
-pub stays_alone : (s : Space Parcel) (v w : Worker) → IsLoneWorker s v → IsSettled s w → IsSameRole (view v.desk) (view w.desk) → IsLoneWorker s w
+pub stays_alone : (s : Space Parcel) (v w : Worker) → IsAloneWorker s v → IsSettled s w → IsSameRole (view v.desk) (view w.desk) → IsAloneWorker s w
 stays_alone s v w was settled role = record { settled = settled; first = role.first ∙ was.first; drawn = role.drawn was.drawn; lent = role.lent ∙ was.lent }
 
 -- the first worker, alone and with nothing to play, may close where it looked at the counter, which is below the limit, and at each cell below

@@ -1,5 +1,5 @@
 -- What a worker that looks for a firing has seen.
-use Rattle.std.proofs.Common.{◌≡◌, ◌≢◌, ℕ, ◌+◌, ◌-◌, ◌<◌, ◌≤◌, min, max, Bool, true, false, if◌then◌else◌, Option, Some, None, is_some, List, [], ◌∷◌, ◌++◌, length-append, append_assoc, refl, sym, ap, ◌∙◌, subst, inl, inr, arith}
+use Rattle.std.proofs.Common.{◌≡◌, ◌≢◌, ℕ, ◌+◌, ◌-◌, ◌<◌, ◌≤◌, min, max, Bool, true, false, if◌then◌else◌, Option, Some, None, is_some, List, [], ◌∷◌, ◌++◌, length-append, append_assoc, refl, sym, ap, ◌∙◌, subst, ⊎_elim, inl, inr, arith}
 use mathlib.Core.Logic.{dite}
 use native.Mathlib.Decide.{ℕ_discrete}
 use Rattle.chord_base.specs.Story.{IsIn}
@@ -9,7 +9,7 @@ use Rattle.chord_rule.specs.Kinds.{saw}
 use Rattle.chord_rule.specs.Tells.{a_word}
 use Rattle.chord_rule.specs.Ways.{LastSeen}
 use Rattle.chord_roll.specs.declared.card.Card.{Card}
-use Rattle.chord_roll.specs.Cards.{counts}
+use Rattle.chord_roll.specs.Cards.{counts, last_read}
 use Rattle.chord_space.specs.declared.space.Space.{Space}
 use Rattle.chord_space.specs.Desks.{view}
 use Rattle.chord_task.specs.declared.parcel.Opened.{Opened as Parcel}
@@ -21,7 +21,7 @@ use Rattle.chord_worker.specs.declared.worker.Worker.{Worker}
 use Rattle.chord_worker.specs.Resting.{IsSeen}
 use Rattle.chord_worker.specs.Stepping.{PlaysFiring}
 use Rattle.chord_pool.specs.declared.player.Player.{Player}
-use Rattle.chord_pool.specs.Players.{is_ready, count_ready, AreAmong, AreUnready, FoundNoneBelow, LookedOnce, LookedThrough, SawUnready, KnowsCount, HasStarted, BeginsLook, HasFoundNone, HasLooked}
+use Rattle.chord_pool.specs.Players.{is_ready, count_ready, AreAmong, AreUnready, FoundNoneBelow, LookedAmong, LookedOnce, LookedThrough, SawUnready, KnowsCount, HasStarted, BeginsLook, HasFound, HasFoundNone, HasLooked}
 
 -- a look at a cell that is not ready
 pub seen_once : (v w : View) (i : ℕ) (x : Word) → IsSeen v w i x → x.cell ≢ Ready → SawUnready v w i
@@ -100,7 +100,7 @@ count_ready-append [] ys = omega arith
 count_ready-append (x ∷ xs) ys = let rest = count_ready-append xs ys in rw rest (omega arith)
 
 -- looks at numbers among some, and then at others, are looks at numbers among all of these
-among_more : (from i : ℕ) (xs ys : List Look) → from ≤ i → AreAmong i (i + 1) xs → AreAmong from i ys → AreAmong from (i + 1) (xs ++ ys)
+pub among_more : (from i : ℕ) (xs ys : List Look) → from ≤ i → AreAmong i (i + 1) xs → AreAmong from i ys → AreAmong from (i + 1) (xs ++ ys)
 among_more from i [] [] low one was = tt
 among_more from i [] (y ∷ ys) low one was = (was.0, (let below = was.1 in omega (arith, below)), among_more from i [] ys low one was.2)
 among_more from i (x ∷ xs) ys low one was = ((let above = one.0 in omega (arith, low, above)), one.1, among_more from i xs ys low one.2 was)
@@ -109,6 +109,32 @@ among_more from i (x ∷ xs) ys low one was = ((let above = one.0 in omega (arit
 among_all : (from i below : ℕ) (looks : List Look) → i ≤ max from below → AreAmong from i looks → AreAmong from below looks
 among_all from i below [] within was = tt
 among_all from i below (l ∷ ls) within was = (was.0, (let above = was.0 in let under = was.1 in omega (arith, within, above, under)), among_all from i below ls within was.2)
+
+-- what was last seen in a cell stays so, where no look was at it
+pub last_stays : (k : ℕ) (x : Word) (from below : ℕ) (looks seen : List Look) → k < from → AreAmong from below looks → LastSeen k x seen → LastSeen k x (looks ++ seen)
+last_stays k x from below [] seen low among was = was
+last_stays k x from below (l ∷ ls) seen low among was = inr ((λ e. let above = among.0 in omega (arith, low, above, e)), last_stays k x from below ls seen low among.2 was)
+
+-- cells that were last not ready are so still, after looks at later ones alone
+pub unready_stay : (from i below : ℕ) (v w : View) → AreUnready from i v.looked.seen → LookedAmong i below v w → AreUnready from i w.looked.seen
+unready_stay from i below v w was later k above low = let r = was k above low in (r.0, subst (LastSeen k r.0) (sym later.seen) (last_stays k r.0 i below later.looks v.looked.seen low later.among r.1), r.2)
+
+-- a look at one cell
+pub among_once : (v w : View) (i : ℕ) (x : Word) → w.looked.seen ≡ record { number = i; word = x } ∷ v.looked.seen → LookedAmong i (i + 1) v w
+among_once v w i x seen = record { looks = record { number = i; word = x } ∷ []; seen = seen; among = (omega arith, omega arith, tt) }
+
+-- looks at numbers among some, and then others among them
+among_both : (from below : ℕ) (xs ys : List Look) → AreAmong from below xs → AreAmong from below ys → AreAmong from below (xs ++ ys)
+among_both from below [] ys now was = was
+among_both from below (x ∷ xs) ys now was = (now.0, now.1, among_both from below xs ys now.2 was)
+
+-- and then more looks at it
+pub among_twice : (u v w : View) (i : ℕ) → LookedAmong i (i + 1) u v → LookedAmong i (i + 1) v w → LookedAmong i (i + 1) u w
+among_twice u v w i was now = record {
+  looks = now.looks ++ was.looks;
+  seen = now.seen ∙ ap (λ l. now.looks ++ l) was.seen ∙ sym (append_assoc now.looks was.looks u.looked.seen);
+  among = among_both i (i + 1) now.looks was.looks now.among was.among;
+}
 
 -- numbers were looked at after something that was no look at a cell
 pub through_from : (u v w : View) (from below : ℕ) → v.looked.seen ≡ u.looked.seen → LookedThrough from below v w → LookedThrough from below u w
@@ -165,6 +191,34 @@ plays_since knows u v w i none same plays = record {
 pub started_since : (knows : ℕ → Type 0) (u v w : Worker) → u.task ≡ None → (view v.desk).kept ≡ (view u.desk).kept → HasStarted knows v w → HasStarted knows u w
 started_since knows u v w none same started = (started.0, plays_since knows u v w started.0 none same started.1)
 
+-- a player that looked and found a firing, where b is the player as it began to look, and l as it was after it
+pub found_first : (knows : ℕ → Type 0) (x b l y : Player) → b.worker ≡ x.worker → b.known ≡ x.known → BeginsLook x b.place b.misses
+    → PlaysFiring knows (view b.worker.desk).kept b.worker.task l.worker l.place → b.place ≤ l.place → AreUnready b.place l.place (view l.worker.desk).looked.seen
+    → (counts x.card ≡ false → last_read y.card ≢ Some 0 → l.place < b.known) → y.worker ≡ l.worker → y.place ≡ l.place → y.misses ≡ 0 → HasFound knows x y
+found_first knows x b l y worker known begins plays onward before fresh same_worker same_place missed = record {
+  from = b.place;
+  begins = inl (b.misses, begins);
+  onward = subst (λ (n : ℕ). b.place ≤ n) (sym same_place) onward;
+  before = rw (same_worker, same_place) before;
+  fresh = λ not unread. let low = fresh not unread in omega (arith, low, same_place, known);
+  plays = rw (same_worker, same_place, sym worker) plays;
+  misses = missed;
+}
+
+-- a player that read that nobody is at work, found none and then looked from the first number on, and found a firing: it was l before that look, and z after it
+pub found_far : (knows : ℕ → Type 0) (x b l z y : Player) → b.worker ≡ x.worker → x.worker.task ≡ None → (view l.worker.desk).kept ≡ (view b.worker.desk).kept
+    → PlaysFiring knows (view l.worker.desk).kept l.worker.task z.worker z.place → AreUnready 0 z.place (view z.worker.desk).looked.seen → last_read y.card ≡ Some 0
+    → y.worker ≡ z.worker → y.place ≡ z.place → y.misses ≡ 0 → HasFound knows x y
+found_far knows x b l z y worker none kept plays before read same_worker same_place missed = record {
+  from = 0;
+  begins = inr (refl, read);
+  onward = omega arith;
+  before = rw (same_worker, same_place) before;
+  fresh = λ not unread. absurd (unread read);
+  plays = rw (same_worker, same_place) (plays_since knows x.worker l.worker z.worker z.place none (kept ∙ ap (λ (w : Worker). (view w.desk).kept) worker) plays);
+  misses = missed;
+}
+
 -- a player that looked and found none, where b is the player as it began to look, and l as it was after it
 pub found_none : (s : Space Parcel) (x b l y : Player) (all : Bool) → b.worker ≡ x.worker → b.known ≡ x.known → BeginsLook x b.place b.misses → all ≡ counts x.card
     → l.worker.task ≡ None → (view l.worker.desk).kept ≡ (view b.worker.desk).kept → LookedThrough b.place (if all then l.known else min b.known l.known) (view b.worker.desk) (view l.worker.desk)
@@ -187,7 +241,15 @@ found_none s x b l y all worker known begins as_counted none kept through next u
 
 -- a look of a player with another card, which counted where this one does
 pub looked_by : (knows : ℕ → Type 0) (s : Space Parcel) (x y : Player) (k : Card) → counts k ≡ counts x.card → HasLooked knows s (record x { card = k }) y → HasLooked knows s x y
-looked_by knows s x y k same (inl found) = inl (record { plays = found.plays; onward = found.onward; misses = found.misses })
+looked_by knows s x y k same (inl found) = inl (record {
+  from = found.from;
+  begins = ⊎_elim (λ near. inl (near.0, record { near = near.1.near; far = near.1.far })) (λ read. inr read) found.begins;
+  onward = found.onward;
+  before = found.before;
+  fresh = λ not. found.fresh (same ∙ not);
+  plays = found.plays;
+  misses = found.misses;
+})
 looked_by knows s x y k same (inr none) = inr (record {
   from = none.from;
   misses = none.misses;

@@ -1,5 +1,5 @@
 -- When the first worker may close the table.
-use Rattle.std.specs.Prelude.{◌≡◌, ◌<◌, ◌≤◌, ◌⊎◌, ℕ, true, false, List, [], ◌∷◌, Some, None, min}
+use Rattle.std.specs.Prelude.{◌≡◌, ◌<◌, ◌≤◌, ◌⊎◌, ◌+◌, ℕ, true, false, List, [], ◌∷◌, ◌++◌, Some, None, min}
 use Rattle.chord_rule.specs.declared.view.Look.{Look}
 use Rattle.chord_rule.specs.declared.view.View.{View}
 use Rattle.chord_rule.specs.Closing.{IsAsleep, MayClose}
@@ -13,7 +13,7 @@ use Rattle.chord_worker.specs.declared.worker.Worker.{Worker}
 use Rattle.chord_worker.specs.Resting.{IsAtRest}
 use Rattle.chord_worker.specs.Stepping.{DrewAStep, HasGoneOn, PlaysNext, PlaysFiring, StillPlays}
 use Rattle.chord_pool.specs.declared.ending.Alone.{Alone}
-use Rattle.chord_pool.specs.Players.{IsSettled, IsUnready, LookedThrough}
+use Rattle.chord_pool.specs.Players.{AreAmong, IsSettled, IsUnready, LookedThrough}
 
 -- each cell from `from` up to below `below` was looked at, and was last neither woken nor ready
 abbrev pub AreAwake : (from below : ℕ) → List Look → Type 0
@@ -24,11 +24,20 @@ abbrev pub SawAsleep : ℕ → List Look → Type 0
 SawAsleep i [] = ⊥
 SawAsleep i (l ∷ ls) = ((i ≡ l.number) × IsAsleep l.word.cell) ⊎ SawAsleep i ls
 
--- the worker, which had no task, plays the firing i, of which the gate knows, or has none and keeps what it kept, and saw that somebody has to look after the cell i, in which no firing is ready any more
-abbrev pub IsStirred : (ℕ → Type 0) → ℕ → Worker → Worker → Type 0
-IsStirred knows i v w = PlaysFiring knows (view v.desk).kept v.task w i ⊎ (StillPlays (view v.desk).kept None w × SawAsleep i (view w.desk).looked.seen × IsUnready i (view w.desk).looked.seen)
+-- between these views the desk looked at cells from `from` up to `to` and at no other ones, and saw `to` asleep, and each cell before it was last neither woken nor ready
+pub record HasComeTo (from to : ℕ) (v w : View) : Type 0 where
+  pub onward : from ≤ to
+  pub looks : List Look
+  pub seen : w.looked.seen ≡ looks ++ v.looked.seen
+  pub among : AreAmong from (to + 1) looks
+  pub asleep : SawAsleep to looks
+  pub before : AreAwake from to w.looked.seen
 
--- the first worker, which had no task, has none and keeps what it kept: it looked at the numbers from its place up to those that are given and at no other ones, once each, nobody has to look after any of them, and it goes on at the first number, where it did not begin
+-- the worker, which had no task, plays the firing i, of which the gate knows, or has none and keeps what it kept, and last saw no firing ready in the cell i
+abbrev pub IsStirred : (ℕ → Type 0) → ℕ → Worker → Worker → Type 0
+IsStirred knows i v w = PlaysFiring knows (view v.desk).kept v.task w i ⊎ (StillPlays (view v.desk).kept None w × IsUnready i (view w.desk).looked.seen)
+
+-- the first worker, which had no task, has none and keeps what it kept: it looked at the numbers from its place up to those that are given and at no other ones, nobody has to look after any of them, and it goes on at the first number, where it did not begin
 pub record HasGoneBack (s : Space Parcel) (x y : Alone) : Type 0 where
   pub count : ℕ
   pub counted : (view y.worker.desk).looked.count ≡ Some count
@@ -38,9 +47,9 @@ pub record HasGoneBack (s : Space Parcel) (x y : Alone) : Type 0 where
   pub awake : AreAwake x.place (min count (events s)) (view y.worker.desk).looked.seen
   pub through : LookedThrough x.place (min count (events s)) (view x.worker.desk) (view y.worker.desk)
 
--- the first worker, which had no task, has come from its place on to a cell that somebody had to look after, or went back to the first number
+-- the first worker, which had no task, has come from its place on to a cell that somebody had to look after, the first one, or went back to the first number
 abbrev pub HasLookedAlone : (ℕ → Type 0) → Space Parcel → Alone → Alone → Type 0
-HasLookedAlone knows s x y = ((x.place ≤ y.place) × IsStirred knows y.place x.worker y.worker) ⊎ HasGoneBack s x y
+HasLookedAlone knows s x y = (HasComeTo x.place y.place (view x.worker.desk) (view y.worker.desk) × IsStirred knows y.place x.worker y.worker) ⊎ HasGoneBack s x y
 
 -- the first worker, alone, went on with its task, drew entries of the body on top and at most one firing, plays no other task but a body of which the gate knows, and stands where it stood, or it looked for a firing
 pub record HadATurn (knows : ℕ → Type 0) (s : Space Parcel) (x y : Alone) : Type 0 where
@@ -60,18 +69,27 @@ pub record HadTurns (knows : ℕ → Type 0) (s : Space Parcel) (x y : Alone) : 
   pub before_each : List Alone
   pub turns : AreTurns knows s x before_each y
 
--- the first worker had turns and left off: it plays what it played after them, and keeps what it kept
-pub record HasLeftOffAlone (knows : ℕ → Type 0) (s : Space Parcel) (x : Alone) (w : Worker) : Type 0 where
-  pub last : Alone
-  pub had : HadTurns knows s x last
-  pub off : StillPlays (view last.worker.desk).kept last.worker.task w
-
 -- the worker looked at the counter, which had reached the limit
 abbrev pub SawLimit : ℕ → View → Type 0
 SawLimit n v = (c : ℕ) × (v.looked.count ≡ Some c) × (min c n ≡ n)
 
+-- between these views the desk looked at the numbers that the counter said were given, from the first on, and at no other ones
+abbrev pub LookedAtAll : Space Parcel → View → View → Type 0
+LookedAtAll s v w = (count : ℕ) × (w.looked.count ≡ Some count) × LookedThrough 0 (min count (events s)) v w
+
+-- the first worker, alone, found that the run is over: it plays what it played and keeps what it kept, and was told that the limit is reached, or saw it, or looked at all numbers from the first on
+pub record FoundRunOver (s : Space Parcel) (v w : Worker) : Type 0 where
+  pub still : StillPlays (view v.desk).kept v.task w
+  pub why : ((view w.desk).spent ≡ true) ⊎ (SawLimit (events s) (view w.desk) ⊎ LookedAtAll s (view v.desk) (view w.desk))
+
+-- the first worker had turns, and then found that the run is over
+pub record HasLeftOffAlone (knows : ℕ → Type 0) (s : Space Parcel) (x : Alone) (w : Worker) : Type 0 where
+  pub last : Alone
+  pub had : HadTurns knows s x last
+  pub off : FoundRunOver s last.worker w
+
 -- the first worker is alone and at rest, and has nothing to play where it was told that the limit is reached
-pub record IsLoneWorker (s : Space Parcel) (w : Worker) : Type 0 where
+pub record IsAloneWorker (s : Space Parcel) (w : Worker) : Type 0 where
   pub settled : IsSettled s w
   pub first : (view w.desk).first ≡ true
   pub drawn : (view w.desk).drawn ≡ true

@@ -73,6 +73,12 @@ abbrev pub AreAmong : ℕ → ℕ → List Look → Type 0
 AreAmong from below [] = Unit {0}
 AreAmong from below (l ∷ ls) = (from ≤ l.number) × (l.number < below) × AreAmong from below ls
 
+-- between these views the desk looked at cells from `from` up to below `below` and at no other ones
+pub record LookedAmong (from below : ℕ) (v w : View) : Type 0 where
+  pub looks : List Look
+  pub seen : w.looked.seen ≡ looks ++ v.looked.seen
+  pub among : AreAmong from below looks
+
 -- between these views the desk looked once, at the cell i, in which no firing was ready
 pub record LookedOnce (i : ℕ) (v w : View) : Type 0 where
   pub word : Word
@@ -137,10 +143,18 @@ pub record BeginsLook (x : Player) (from misses : ℕ) : Type 0 where
   pub near : x.misses ≢ 32 → (from ≡ x.place) × (misses ≡ x.misses)
   pub far : x.misses ≡ 32 → (from ≡ 0) × (misses ≡ 0)
 
--- a player that had no task plays the firing at its place now, of which the gate knows, and whose entry its desk keeps beside all that it kept: it went on from its place, unless 32 looks had found none, or it read that nobody is at work
+-- a look of the player began there: where it begins a look, or at the first number where it read that nobody is at work
+abbrev pub BeginsAt : Player → Player → ℕ → Type 0
+BeginsAt x y from = ((misses : ℕ) × BeginsLook x from misses) ⊎ ((from ≡ 0) × (last_read y.card ≡ Some 0))
+
+-- a player that had no task plays the firing at its place now, of which the gate knows, and whose entry its desk keeps beside all that it kept: each cell from where its look began up to that one was last seen in another state than ready, and one that does not count took none that was drawn since its last look, unless it read that nobody is at work
 pub record HasFound (knows : ℕ → Type 0) (x y : Player) : Type 0 where
+  pub from : ℕ
+  pub begins : BeginsAt x y from
+  pub onward : from ≤ y.place
+  pub before : AreUnready from y.place (view y.worker.desk).looked.seen
+  pub fresh : counts x.card ≡ false → last_read y.card ≢ Some 0 → y.place < x.known
   pub plays : PlaysFiring knows (view x.worker.desk).kept x.worker.task y.worker y.place
-  pub onward : x.misses ≢ 32 → last_read y.card ≢ Some 0 → x.place ≤ y.place
   pub misses : y.misses ≡ 0
 
 -- a player that had no task has none and keeps what it kept: it looked at the numbers from where its look begins up to those that it knew of, or all that are given if it counts, found no firing to start there, goes on at most 256 below their end, and knows how many are given now
@@ -210,9 +224,15 @@ HaveAllLeftOff knows s [] (y ∷ ys) = ⊥
 HaveAllLeftOff knows s (x ∷ xs) [] = ⊥
 HaveAllLeftOff knows s (x ∷ xs) (y ∷ ys) = HasLeftOff knows s x y × HaveAllLeftOff knows s xs ys
 
--- a player that was hired may go on, and has nothing to play yet
-abbrev pub IsHired : Space Parcel → Player → Type 0
-IsHired s x = MayPlay s x × (x.worker.task ≡ None) × (x.failed ≡ false)
+-- a player that was hired may go on, has nothing to play yet and does not count among those at work: it knows of no number, and none of its looks found none
+pub record IsHired (s : Space Parcel) (x : Player) : Type 0 where
+  pub may : MayPlay s x
+  pub task : x.worker.task ≡ None
+  pub sane : x.failed ≡ false
+  pub uncounted : counts x.card ≡ false
+  pub place : x.place ≡ 0
+  pub known : x.known ≡ 0
+  pub misses : x.misses ≡ 0
 
 -- each of these was hired
 abbrev pub AreHired : Space Parcel → List Player → Type 0

@@ -4,10 +4,10 @@ ghost use Rattle.chord_rule.specs.Closing.{IsAsleep};
 ghost use Rattle.chord_space.specs.Desks.{view};
 ghost use Rattle.chord_word.specs.declared.cells.Word.{Word};
 ghost use Rattle.chord_worker.specs.Resting.{IsSameRole, IsSeen};
-ghost use Rattle.chord_worker.specs.Stepping.{StillPlays};
+ghost use Rattle.chord_worker.specs.Stepping.{PlaysBody};
 ghost use Rattle.chord_pool.specs.declared.ending.Alone.{Alone as TheAlone};
 ghost use Rattle.chord_pool.specs.Players.{IsOneRun, IsFit, IsUnready, LookedThrough};
-ghost use Rattle.chord_pool.specs.Ending.{AreAwake, IsStirred, HasLookedAlone, HadATurn, HadTurns, HasLeftOffAlone, IsLoneWorker, IsRunOver};
+ghost use Rattle.chord_pool.specs.Ending.{AreAwake, HasComeTo, IsStirred, HasLookedAlone, HadATurn, HadTurns, FoundRunOver, HasLeftOffAlone, IsAloneWorker, IsRunOver};
 
 use crate::run::Run;
 use chord_word::Cell;
@@ -28,6 +28,7 @@ fn is_awake<'a, G: Gate>(run: &Run<'a>, worker: &mut Worker, i: u32, gate: &G) -
     ensures role { IsSameRole (view worker.old.desk) (view worker.new.desk) }
     ensures idle { result ≡ true → worker.new.task ≡ None }
     ensures seen { result ≡ true → (x : Word) × IsSeen (view worker.old.desk) (view worker.new.desk) i x × (IsAsleep x.cell → ⊥) }
+    ensures come { result ≡ false → HasComeTo i i (view worker.old.desk) (view worker.new.desk) }
     ensures stirred { result ≡ false → IsStirred G.knows i worker.old worker.new }
     ensures started { worker.new.task ≡ None → IsUnready i (view worker.new.desk).looked.seen }
 {
@@ -36,6 +37,7 @@ fn is_awake<'a, G: Gate>(run: &Run<'a>, worker: &mut Worker, i: u32, gate: &G) -
             worker.start(run.space, run.code, run.limits, i, gate);
             false
         }
+        // It does not come back to this cell for ever: no call wakes a caller yet.
         Cell::Woken(_) => false,
         _ => true,
     }
@@ -61,6 +63,7 @@ fn find_asleep<'a, G: Gate>(
     ensures kept { IfNone result ((view worker.new.desk).kept ≡ (view worker.old.desk).kept) }
     ensures seen { IfNone result (AreAwake from below (view worker.new.desk).looked.seen) }
     ensures through { IfNone result (LookedThrough from below (view worker.old.desk) (view worker.new.desk)) }
+    ensures come { IfSome result (λ i. HasComeTo from i (view worker.old.desk) (view worker.new.desk)) }
     ensures stirred { IfSome result (λ i. IsStirred G.knows i worker.old worker.new) }
     ensures among { IfSome result (λ i. (from ≤ i) × (i < below)) }
 {
@@ -72,7 +75,7 @@ fn find_asleep<'a, G: Gate>(
     None
 }
 
-/// The first worker, where no other one is at work.
+/// The first worker, where all others have come back, or it has hired none.
 #[derive(Drop)]
 pub(crate) struct Alone {
     pub worker: Worker,
@@ -81,8 +84,8 @@ pub(crate) struct Alone {
 }
 
 impl Alone {
-    /// Looks at the cells of as many numbers, from its place on, until a firing is started. Where nobody has to look after any of these,
-    /// the next look begins at the first number, unless this one did. Whether it did, and so nobody has to look after any cell.
+    /// Looks at the cells from its place on, below this count, until it comes to one that somebody has to look after, and stands there.
+    /// Where none is, it goes back to the first number. Whether none is and it began there: nobody has to look after any cell.
     fn look<'a, G: Gate>(&mut self, run: &Run<'a>, count: u32, gate: &G) -> bool
         requires run { IsOneRun run.now.space.now run.now.code.now run.now.limits.now }
         requires worker { IsFit run.now.space.now self.old.worker }
@@ -94,6 +97,7 @@ impl Alone {
         ensures count { result ≡ true → (view self.new.worker.desk).looked.count ≡ (view self.old.worker.desk).looked.count }
         ensures kept { result ≡ true → (view self.new.worker.desk).kept ≡ (view self.old.worker.desk).kept }
         ensures seen { result ≡ true → AreAwake 0 count (view self.new.worker.desk).looked.seen }
+        ensures through { result ≡ true → LookedThrough 0 count (view self.old.worker.desk) (view self.new.worker.desk) }
         ensures looked { result ≡ false → HasLookedAlone G.knows run.now.space.now self.old self.new }
     {
         let from = self.place;
@@ -118,12 +122,12 @@ impl Alone {
         gate: &G,
     ) -> Result<bool, AllocError>
         requires run { IsOneRun run.now.space.now run.now.code.now run.now.limits.now }
-        requires worker { IsLoneWorker run.now.space.now self.old.worker }
-        ensures worker { OnOk result (IsLoneWorker run.now.space.now self.new.worker) }
+        requires worker { IsAloneWorker run.now.space.now self.old.worker }
+        ensures worker { OnOk result (IsAloneWorker run.now.space.now self.new.worker) }
         ensures role { OnOk result (IsSameRole (view self.old.worker.desk) (view self.new.worker.desk)) }
         ensures over { IfOk result (λ over. over ≡ true → IsRunOver run.now.space.now self.new.worker) }
         ensures went { IfOk result (λ over. over ≡ false → HadATurn G.knows run.now.space.now self.old self.new) }
-        ensures off { IfOk result (λ over. over ≡ true → StillPlays (view self.old.worker.desk).kept self.old.worker.task self.new.worker) }
+        ensures off { IfOk result (λ over. over ≡ true → FoundRunOver run.now.space.now self.old.worker self.new.worker) }
     {
         if self.worker.is_spent() {
             return Ok(true);
@@ -149,8 +153,8 @@ impl Alone {
         gate: &G,
     ) -> Result<bool, AllocError>
         requires run { IsOneRun run.now.space.now run.now.code.now run.now.limits.now }
-        requires worker { IsLoneWorker run.now.space.now self.old.worker }
-        ensures worker { OnOk result (IsLoneWorker run.now.space.now self.new.worker) }
+        requires worker { IsAloneWorker run.now.space.now self.old.worker }
+        ensures worker { OnOk result (IsAloneWorker run.now.space.now self.new.worker) }
         ensures role { OnOk result (IsSameRole (view self.old.worker.desk) (view self.new.worker.desk)) }
         ensures over { IfOk result (λ over. over ≡ true → IsRunOver run.now.space.now self.new.worker) }
         ensures went { IfOk result (λ over. over ≡ false → (before : TheAlone) × HadTurns G.knows run.now.space.now self.old before × HadATurn G.knows run.now.space.now before self.new) }
@@ -179,7 +183,8 @@ pub(crate) fn play_alone<'a, R: Wait, G: Gate>(
     gate: &G,
 ) -> Result<Worker, AllocError>
     requires run { IsOneRun run.now.space.now run.now.code.now run.now.limits.now }
-    requires worker { IsLoneWorker run.now.space.now worker }
+    requires worker { IsAloneWorker run.now.space.now worker }
+    requires told { PlaysBody 0 worker → G.knows 0 }
     ensures over { IfOk result (λ last. IsRunOver run.now.space.now last) }
     ensures off { IfOk result (λ last. (begin : TheAlone) × (begin.worker ≡ worker) × (begin.place ≡ 0) × HasLeftOffAlone G.knows run.now.space.now begin last) }
     ensures splits { IfOk result (λ last. (view last.desk).splits ≡ (view worker.desk).splits) }

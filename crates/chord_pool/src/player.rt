@@ -5,8 +5,8 @@ ghost use Rattle.chord_pool.specs.declared.player.Player.{Player as ThePlayer};
 ghost use Rattle.chord_space.specs.Desks.{view};
 ghost use Rattle.chord_task.specs.declared.task.Task.{Task as TheTask};
 ghost use Rattle.chord_worker.specs.Resting.{IsSameRole};
-ghost use Rattle.chord_worker.specs.Stepping.{DrewAStep, HasGoneOn, PlaysNext, PlaysFiring, StillPlays};
-ghost use Rattle.chord_pool.specs.Players.{IsOneRun, IsFit, AreUnready, FoundNoneBelow, FoundNone, SawUnready, LookedOnce, LookedThrough, KnowsCount, HasStarted, StandsStill, BeginsLook, HasLooked, HadARound, HadRounds, IsBetweenRounds, HasLeftOff, MayPlay, HasPlayed, PlaysOn, IsOnTheWay, CountsIfItPlays, TellsIfItFails};
+ghost use Rattle.chord_worker.specs.Stepping.{DrewAStep, HasGoneOn, PlaysBody, PlaysNext, PlaysFiring, StillPlays};
+ghost use Rattle.chord_pool.specs.Players.{IsOneRun, IsFit, AreUnready, FoundNoneBelow, FoundNone, SawUnready, LookedAmong, LookedOnce, LookedThrough, KnowsCount, HasStarted, StandsStill, BeginsLook, HasLooked, HadARound, HadRounds, IsBetweenRounds, HasLeftOff, MayPlay, HasPlayed, PlaysOn, IsOnTheWay, CountsIfItPlays, TellsIfItFails};
 
 use crate::crowd::Crowd;
 use crate::pause::Pause;
@@ -59,6 +59,7 @@ fn start_at_work<'a, G: Gate>(
     ensures task { result ≡ is_some worker.new.task }
     ensures plays { result ≡ true → PlaysFiring G.knows (view worker.old.desk).kept worker.old.task worker.new i }
     ensures refused { result ≡ false → SawUnready (view worker.old.desk) (view worker.new.desk) i }
+    ensures among { LookedAmong i (i + 1) (view worker.old.desk) (view worker.new.desk) }
     ensures once { result ≡ false → LookedOnce i (view worker.old.desk) (view worker.new.desk) }
 {
     // the card is here so that a condition can speak of it
@@ -87,6 +88,7 @@ fn try_start<'a, G: Gate>(
     ensures as_before { result ≡ false → counts card.new ≡ counts card.old }
     ensures plays { result ≡ true → PlaysFiring G.knows (view worker.old.desk).kept worker.old.task worker.new i }
     ensures seen { result ≡ false → SawUnready (view worker.old.desk) (view worker.new.desk) i }
+    ensures among { LookedAmong i (i + 1) (view worker.old.desk) (view worker.new.desk) }
     ensures through { result ≡ false → LookedThrough i (i + 1) (view worker.old.desk) (view worker.new.desk) }
 {
     match worker.look(run.space, i) {
@@ -130,6 +132,7 @@ fn sweep<'a, G: Gate>(
     ensures through { IfNone result (LookedThrough from below (view worker.old.desk) (view worker.new.desk)) }
     ensures plays { IfSome result (λ i. PlaysFiring G.knows (view worker.old.desk).kept worker.old.task worker.new i) }
     ensures among { IfSome result (λ i. (from ≤ i) × (i < below)) }
+    ensures before { IfSome result (λ i. AreUnready from i (view worker.new.desk).looked.seen) }
 {
     for i in from..below {
         if try_start(run, worker, i, gate, card) {
@@ -167,6 +170,8 @@ fn find_work<'a, G: Gate>(
     ensures next { worker.new.task ≡ None → result ≡ below - 256 }
     ensures plays { worker.new.task ≢ None → PlaysFiring G.knows (view worker.old.desk).kept worker.old.task worker.new result }
     ensures onward { worker.new.task ≢ None → place ≤ result }
+    ensures below { worker.new.task ≢ None → result < below }
+    ensures before { worker.new.task ≢ None → AreUnready place result (view worker.new.desk).looked.seen }
 {
     match sweep(run, worker, place, below, gate, card) {
         Some(i) => i,
@@ -262,6 +267,8 @@ impl Player {
         ensures next { self.new.worker.task ≡ None → self.new.place ≡ (if among_all then self.new.known else min self.old.known self.new.known) - 256 }
         ensures plays { self.new.worker.task ≢ None → PlaysFiring G.knows (view self.old.worker.desk).kept self.old.worker.task self.new.worker self.new.place }
         ensures onward { self.new.worker.task ≢ None → self.old.place ≤ self.new.place }
+        ensures before { self.new.worker.task ≢ None → AreUnready self.old.place self.new.place (view self.new.worker.desk).looked.seen }
+        ensures fresh { self.new.worker.task ≢ None → among_all ≡ false → self.new.place < self.old.known }
     {
         let count = self.worker.count(run.space);
         let below = if among_all {
@@ -297,6 +304,7 @@ impl Player {
         ensures kept { self.new.worker.task ≡ None → (view self.new.worker.desk).kept ≡ (view self.old.worker.desk).kept }
         ensures none { self.new.worker.task ≡ None → FoundNone run.now.space.now 0 (view self.new.worker.desk) }
         ensures plays { self.new.worker.task ≢ None → PlaysFiring G.knows (view self.old.worker.desk).kept self.old.worker.task self.new.worker self.new.place }
+        ensures before { self.new.worker.task ≢ None → AreUnready 0 self.new.place (view self.new.worker.desk).looked.seen }
     {
         if from > 0 {
             self.place = 0;
@@ -447,10 +455,8 @@ impl Player {
         }
         true
     }
-}
 
-impl Player {
-    /// Between two spells a worker with a task stands aside for a moment where many crowd at the counter.
+    /// Between two spells a worker with a task may stand aside (`Crowd`).
     fn give_way<R: Wait>(&mut self, rt: &R, crowd: &mut Crowd)
         ensures between { IsBetweenRounds self.old self.new }
         ensures same { self.new.failed ≡ self.old.failed }
@@ -473,6 +479,7 @@ pub(crate) fn work<'a, R: Wait, G: Gate>(
     requires may { MayPlay run.now.space.now player }
     requires sane { player.failed ≡ false }
     requires counts { CountsIfItPlays player }
+    requires told { PlaysBody 0 player.worker → G.knows 0 }
     ensures played { HasPlayed run.now.space.now result }
     ensures on { PlaysOn player result }
     ensures off { HasLeftOff G.knows run.now.space.now player result }

@@ -8,8 +8,10 @@ ghost use Rattle.chord_code.specs.Sound.{IsSoundCode};
 ghost use Rattle.chord_rule.specs.Kinds.{newcomer_first};
 ghost use Rattle.chord_space.specs.Desks.{view, IsDeskOf};
 ghost use Rattle.chord_space.specs.Ends.{parcels, closing_view};
+ghost use Rattle.chord_worker.specs.Stepping.{PlaysMain};
+ghost use Rattle.chord_pool.specs.declared.ending.Alone.{Alone as TheAlone};
 ghost use Rattle.chord_pool.specs.Players.{IsOneRun, IsCrew, IsBack};
-ghost use Rattle.chord_pool.specs.Ending.{IsLast, IsRunOver};
+ghost use Rattle.chord_pool.specs.Ending.{HasLeftOffAlone, IsLast, IsRunOver};
 
 use crate::closing::finish;
 use crate::crew::{hire, take_all};
@@ -87,6 +89,7 @@ fn play_all<'a, R: Threads + Wait + Sync, G: Gate + Sync>(
     ensures over { IfOk result (λ last. IsRunOver run.now.space.now last) }
     ensures crew { IfOk result (λ last. (view last.desk).splits + 1 ≡ workers) }
     ensures told { IfOk result (λ _. G.knows 0) }
+    ensures alone { IfOk result (λ last. workers ≡ 1 → (begin : TheAlone) × PlaysMain begin.worker × (begin.place ≡ 0) × HasLeftOffAlone G.knows run.now.space.now begin last) }
 {
     let main = Worker::main(alloc, run.space, run.code, run.limits, desk)?;
     // One that hires nobody is alone from the beginning: it needs no thread, and looks for nothing that others might have posted.
@@ -100,14 +103,14 @@ fn play_all<'a, R: Threads + Wait + Sync, G: Gate + Sync>(
     Ok(last)
 }
 
-/// Plays a sound code with this many workers, each at a thread of its own: the journal of a complete run, or of a run of exactly
-/// `limits.events` entries, and the closed table of that run.
+/// Plays a sound code with this many workers, the first at the caller's thread and each other one at one of its own where it can be
+/// made: the journal of a complete run, or of a run of exactly `limits.events` entries, and the closed table of that run.
 ///
 /// `limits.events` is 1 to 65,536, `limits.depth` 1 to 256, `workers` 1 to 64. A journal of fewer entries is complete. The table
 /// drew the entries of the journal, in its order, and each entry that the desk that closed it kept stands there; it has given its memory back, and no parcel is
 /// left. That desk is the first one, and each other worker had a desk that was split from it. `gate.started` is called for each body by the worker that
 /// begins to play it; that the gate knows of `Main` is a clause, that it knows of each other one is said of what each worker does at
-/// its thread (`HasLeftOff`) and of what the first one does after them (`HasLeftOffAlone`), and that it is told once is tested. It is
+/// its thread (`HasLeftOff`) and of what the first one does alone (`HasLeftOffAlone`), and that it is told once is tested. It is
 /// not promised that the call returns.
 ///
 /// # Errors

@@ -1,7 +1,7 @@
-use Rattle.std.proofs.Common.{◌∙◌, refl, sym, arith}
+use Rattle.std.proofs.Common.{◌+◌, ◌∙◌, refl, sym, arith}
 use Rattle.chord_space.specs.Desks.{view}
 use Rattle.chord_pool.proofs.Endings.{role_stays}
-use Rattle.chord_pool.proofs.Looking.{none_there, unready_more, through_more, through_all, plays_since}
+use Rattle.chord_pool.proofs.Looking.{none_there, unready_more, through_more, through_all, plays_since, unready_stay}
 use Rattle.chord_pool.proofs.player.sweep.Goals as goal
 
 pub loop-i-preserved : goal.loop-i-preserved
@@ -27,6 +27,10 @@ returns-then-try_start-clause-started g c = λ _.
 pub returns-then-try_start-clause-plays : goal.returns-then-try_start-clause-plays
 returns-then-try_start-clause-plays g c =
     plays_since g.G.Gate.knows c.args.worker.now c.loop-i.worker c.try_start.new.worker c.loop-i.i c.requires.idle c.loop-i.invariant.8 (c.if-try_start.ensures.plays refl)
+
+pub returns-then-try_start-clause-before : goal.returns-then-try_start-clause-before
+returns-then-try_start-clause-before g c =
+    unready_stay c.args.from c.loop-i.i (c.loop-i.i + 1) (view c.loop-i.worker.desk) (view c.try_start.new.worker.desk) c.loop-i.invariant.4 c.if-try_start.ensures.among
 
 pub returns-clause-through : goal.returns-clause-through
 returns-clause-through g c = through_all (view c.args.worker.now.desk) (view c.loop-i.worker.desk) c.args.from c.loop-i.i c.args.below c.loop-i-test.false c.loop-i.invariant.9 c.loop-i.invariant.10

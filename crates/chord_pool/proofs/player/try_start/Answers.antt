@@ -1,6 +1,6 @@
 use Rattle.std.proofs.Common.{◌∙◌, sym}
 use Rattle.chord_space.specs.Desks.{view}
-use Rattle.chord_pool.proofs.Looking.{seen_twice, through_once, through_twice, plays_since}
+use Rattle.chord_pool.proofs.Looking.{seen_twice, among_once, among_twice, through_once, through_twice, plays_since}
 use Rattle.chord_pool.proofs.player.try_start.Goals as goal
 
 pub returns-else-not-started-clause-seen : goal.returns-else-not-started-clause-seen
@@ -31,3 +31,18 @@ pub returns-in_default-clause-through : goal.returns-in_default-clause-through
 returns-in_default-clause-through g c = λ e.
     let look = c.look.ensures.seen in
     through_once (view c.args.worker.now.desk) (view c.look.new.self.desk) c.args.i look.0 (λ ready. c.in_default.not-Ready (look.1 ∙ ready)) look.2.seen
+
+pub returns-else-not-started-clause-among : goal.returns-else-not-started-clause-among
+returns-else-not-started-clause-among g c =
+    let look = c.look.ensures.seen in
+    among_twice (view c.args.worker.now.desk) (view c.look.new.self.desk) (view c.start_at_work-started.new.worker.desk) c.args.i
+    (among_once (view c.args.worker.now.desk) (view c.look.new.self.desk) c.args.i look.0 look.2.seen) c.start_at_work-started.ensures.among
+
+pub returns-then-not-was_at_work-clause-among : goal.returns-then-not-was_at_work-clause-among
+returns-then-not-was_at_work-clause-among g c =
+    let look = c.look.ensures.seen in
+    among_twice (view c.args.worker.now.desk) (view c.look.new.self.desk) (view c.start_at_work-started.new.worker.desk) c.args.i
+    (among_once (view c.args.worker.now.desk) (view c.look.new.self.desk) c.args.i look.0 look.2.seen) c.start_at_work-started.ensures.among
+
+pub returns-in_default-clause-among : goal.returns-in_default-clause-among
+returns-in_default-clause-among g c = let look = c.look.ensures.seen in among_once (view c.args.worker.now.desk) (view c.look.new.self.desk) c.args.i look.0 look.2.seen

@@ -1,7 +1,8 @@
-use Rattle.std.proofs.Common.{◌≡◌, ◌∙◌, refl, sym, ap, true, false, inr, arith}
+use Rattle.std.proofs.Common.{◌≡◌, ◌∙◌, refl, sym, ap, true, false, Some, inl, inr, arith}
 use Rattle.std.proofs.lemmas.Bool.{ne_eqb}
-use Rattle.chord_roll.specs.Cards.{counts}
-use Rattle.chord_pool.proofs.Looking.{none_there, found_none}
+use Rattle.chord_roll.specs.Cards.{counts, last_read}
+use Rattle.chord_pool.proofs.Looking.{none_there, found_first, found_far, found_none}
+use Rattle.chord_pool.proofs.Endings.{task_started}
 use Rattle.chord_pool.proofs.player.Player.idle.Goals as goal
 use Rattle.chord_pool.proofs.player.Player.idle.Goals.{then-counted, else-counted}
 
@@ -26,3 +27,31 @@ returns-clause-looked g c = λ _.
     let all : c.if-counted.look ≡ false = elim c.if-counted.branch [ then-counted w ↦ absurd (cc) | else-counted w ↦ w.look-is ∙ ne_eqb c.read-working.result 0 c.if-working-eq0.false ] in
     inr (found_none c.args.run.now.space.now c.args.self.now c.begin_look.new.self c.look.new.self _ c.if-counted.look same.0 same.3 (record { near = begins.near; far = begins.far }) (all ∙ sym counted)
     none (look.kept none) (look.through none) (look.next none) (look.knew none) (look.knows none) c.requires.idle refl refl refl (λ _ few. let more = c.saturating_add-self.ensures in let before = look.same.1 in omega (arith, more, before, few)) (λ other. absurd (cc)))
+
+pub returns-then-has_task-clause-looked : goal.returns-then-has_task-clause-looked
+returns-then-has_task-clause-looked g c = λ _.
+    let same = c.begin_look.ensures.same in
+    let begins = c.begin_look.ensures.begins in
+    let look = c.look.ensures in
+    let found = c.found.ensures in
+    let some = task_started c.look.new.self.worker.task (sym c.has_task.ensures ∙ c.if-has_task.true) in
+    let read : last_read c.found.new.self.card ≡ Some c.read-working.result = ap last_read found.same.3 ∙ look.card.1 ∙ ap last_read same.1 ∙ c.read-working.ensures.read in
+    inl (found_first g.G.Gate.knows c.args.self.now c.begin_look.new.self c.look.new.self c.found.new.self same.0 same.3 (record { near = begins.near; far = begins.far })
+    (look.plays some) (look.onward some) (look.before some)
+    (λ not unread.
+    let counted : c.is_at_work-counted.result ≡ false = c.is_at_work-counted.ensures ∙ ap counts same.1 ∙ c.read-working.ensures.same.2 ∙ not in
+    let all : c.if-counted.look ≡ false = elim c.if-counted.branch [ then-counted w ↦ absurd (cc) | else-counted w ↦ w.look-is ∙ ne_eqb c.read-working.result 0 (λ e. unread (read ∙ ap Some e)) ] in
+    look.fresh some all)
+    found.same.0 found.same.2 found.misses)
+
+pub returns-then-working-eq0-clause-looked : goal.returns-then-working-eq0-clause-looked
+returns-then-working-eq0-clause-looked g c = λ _.
+    let same = c.begin_look.ensures.same in
+    let look = c.look.ensures in
+    let far = c.look_far.ensures in
+    let found = c.found-then-working-eq0.ensures in
+    let none = none_there c.look.new.self.worker.task (sym c.has_task.ensures ∙ c.if-has_task.false) in
+    let some = task_started c.look_far.new.self.worker.task (sym c.has_task-then-working-eq0.ensures ∙ c.if-not-has_task.false) in
+    let read : last_read c.found-then-working-eq0.new.self.card ≡ Some 0 = ap last_read found.same.3 ∙ far.card.1 ∙ look.card.1 ∙ ap last_read same.1 ∙ c.read-working.ensures.read ∙ ap Some c.if-working-eq0.true in
+    inl (found_far g.G.Gate.knows c.args.self.now c.begin_look.new.self c.look.new.self c.look_far.new.self c.found-then-working-eq0.new.self same.0 c.requires.idle (look.kept none)
+    (far.plays some) (far.before some) read found.same.0 found.same.2 found.misses)
