@@ -7,7 +7,7 @@ use lib.ListN.{get_elem?}
 use Rattle.atomic_table.specs.Table.{State, Me, step, keeps, stepped, Allows, Splits}
 use Rattle.atomic_table.proofs.Lists.{at_set, at_snoc, set_again, set_else, set_here, at_longer}
 use Rattle.chord_roll.specs.declared.turnout.Turnout.{Turnout}
-use Rattle.chord_roll.specs.Roll.{counted_as, at_work, IsRoll, new_card, hired_one, OneTells, counting, having_read, stopping, telling, count_begins, count_ends, reads_count, tells_all, reads_stop}
+use Rattle.chord_roll.specs.Roll.{counted_as, at_work, IsRoll, new_card, hired_one, OneTells, counting, counted_off, having_read, stopping, telling, count_begins, count_ends, reads_count, tells_all, reads_stop}
 use Rattle.chord_roll.proofs.Counting.{at_work_bound, at_work_set, at_work_snoc, at_work_at}
 
 -- the roll at a moment
@@ -70,13 +70,13 @@ placed s r n id me w at same stopped tell is = let wide = r.words in let long = 
 
 -- a worker begins to count
 pub begins_keeps : (slots id : ℕ) (me : Holder) → me.0.counts ≡ false → Allows IsRoll slots id me 0 (λ n. (n + 1) % 2 ^ 64) (count_begins (step slots 0 1 0 none) me)
-begins_keeps slots id me out s r _ at _ = let w = counting true me.0 in let x : ℕ = get_or s.words 0 0 in let sum = at_work_set s.views id me.0 w at in let none_yet : counted_as me.0.counts ≡ 0 = ap counted_as out in
+begins_keeps slots id me out s r _ at _ = let w = counting me.0 in let x : ℕ = get_or s.words 0 0 in let sum = at_work_set s.views id me.0 w at in let none_yet : counted_as me.0.counts ≡ 0 = ap counted_as out in
     let most = few s.views r.any r.first in let bound = at_work_bound s.views in let count = r.count in let more : at_work (set s.views id w) ≡ (x + 1) % 18446744073709551616 = omega arith in
     (w, keeps, tt, placed s r ((x + 1) % 2 ^ 64) id me w at refl refl refl more, refl)
 
 -- it counts no more
 pub ends_keeps : (slots id : ℕ) (me : Holder) → me.0.counts ≡ true → Allows IsRoll slots id me 0 (λ n. (n + (2 ^ 64 - 1)) % 2 ^ 64) (count_ends (step slots 0 1 0 none) me)
-ends_keeps slots id me inside s r _ at small = let w = counting false me.0 in let x : ℕ = get_or s.words 0 0 in let sum = at_work_set s.views id me.0 w at in let one : counted_as me.0.counts ≡ 1 = ap counted_as inside in
+ends_keeps slots id me inside s r _ at small = let w = counted_off me.0 in let x : ℕ = get_or s.words 0 0 in let sum = at_work_set s.views id me.0 w at in let one : counted_as me.0.counts ≡ 1 = ap counted_as inside in
     let count = r.count in let fits : x < 18446744073709551616 = small in let less : at_work (set s.views id w) ≡ (x + 18446744073709551615) % 18446744073709551616 = omega arith in
     (w, keeps, tt, placed s r ((x + (2 ^ 64 - 1)) % 2 ^ 64) id me w at refl refl refl less, refl)
 

@@ -7,6 +7,10 @@ use Rattle.chord_roll.specs.declared.card.Card.{Card}
 abbrev pub counts : Card → Bool
 counts c = c.seat.me.0.counts
 
+-- how often its worker was counted off
+abbrev pub ended : Card → ℕ
+ended c = c.seat.me.0.ended
+
 -- how many cards were made from it
 abbrev pub hired : Card → ℕ
 hired c = c.seat.me.0.hired

@@ -30,27 +30,31 @@ pub record IsRoll (s : State (Unit {0}) Turnout) : Type 0 where
 
 -- a card that does not count, and with which nothing was done yet
 abbrev pub new_card : Turnout
-new_card = record { counts = false; hired = 0; read = None; stops = false; tells = false }
+new_card = record { counts = false; ended = 0; hired = 0; read = None; stops = false; tells = false }
 
 -- the card from which one more was made
 abbrev pub hired_one : Turnout → Turnout
-hired_one t = record { counts = t.counts; hired = t.hired + 1; read = t.read; stops = t.stops; tells = t.tells }
+hired_one t = record { counts = t.counts; ended = t.ended; hired = t.hired + 1; read = t.read; stops = t.stops; tells = t.tells }
 
--- the card, whether it counts given anew
-abbrev pub counting : Bool → Turnout → Turnout
-counting b t = record { counts = b; hired = t.hired; read = t.read; stops = t.stops; tells = t.tells }
+-- the card of a worker that counts from here on
+abbrev pub counting : Turnout → Turnout
+counting t = record { counts = true; ended = t.ended; hired = t.hired; read = t.read; stops = t.stops; tells = t.tells }
+
+-- the card of a worker that was counted off once more
+abbrev pub counted_off : Turnout → Turnout
+counted_off t = record { counts = false; ended = t.ended + 1; hired = t.hired; read = t.read; stops = t.stops; tells = t.tells }
 
 -- the card of a worker that has read this number
 abbrev pub having_read : ℕ → Turnout → Turnout
-having_read n t = record { counts = t.counts; hired = t.hired; read = Some n; stops = t.stops; tells = t.tells }
+having_read n t = record { counts = t.counts; ended = t.ended; hired = t.hired; read = Some n; stops = t.stops; tells = t.tells }
 
 -- the card of a worker that has read that all are to stop
 abbrev pub stopping : Turnout → Turnout
-stopping t = record { counts = t.counts; hired = t.hired; read = t.read; stops = true; tells = t.tells }
+stopping t = record { counts = t.counts; ended = t.ended; hired = t.hired; read = t.read; stops = true; tells = t.tells }
 
 -- the card of a worker that has told all to stop
 abbrev pub telling : Turnout → Turnout
-telling t = record { counts = t.counts; hired = t.hired; read = t.read; stops = true; tells = true }
+telling t = record { counts = t.counts; ended = t.ended; hired = t.hired; read = t.read; stops = true; tells = true }
 
 -- a card, and no slots
 abbrev Holder : Type 0
@@ -58,11 +62,11 @@ Holder = Me (Unit {0}) Turnout
 
 -- the card counts from here on
 abbrev pub count_begins : Step (Unit {0}) → Holder → ℕ → Holder → Type 0
-count_begins st m n m' = m' ≡ (counting true m.0, m.1)
+count_begins st m n m' = m' ≡ (counting m.0, m.1)
 
--- the card counts no more
+-- the card is counted off
 abbrev pub count_ends : Step (Unit {0}) → Holder → ℕ → Holder → Type 0
-count_ends st m n m' = m' ≡ (counting false m.0, m.1)
+count_ends st m n m' = m' ≡ (counted_off m.0, m.1)
 
 -- the number is read, which is not 0 where the reader itself counts
 abbrev pub reads_count : Step (Unit {0}) → Holder → ℕ → Holder → Type 0

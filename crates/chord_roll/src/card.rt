@@ -39,7 +39,8 @@ pub struct Card {
 }
 
 impl Card {
-    ghost use Rattle.chord_roll.specs.Cards.{counts, hired, last_read, stops, tells, roll_of, IsFirstCard, IsSameCard, HasReadNothing};
+    ghost use Rattle.chord_roll.specs.Roll.{counted_as};
+    ghost use Rattle.chord_roll.specs.Cards.{counts, ended, hired, last_read, stops, tells, roll_of, IsFirstCard, IsSameCard, HasReadNothing};
 
     /// A new roll with one card, which does not count.
     ///
@@ -47,7 +48,7 @@ impl Card {
     ///
     /// `AllocError` where no memory is found.
     pub fn first(alloc: Global) -> Result<Card, AllocError>
-        ensures { IfOk result (λ card. IsFirstCard card × (hired card ≡ 0) × (counts card ≡ false) × (stops card ≡ false)) }
+        ensures { IfOk result (λ card. IsFirstCard card × (hired card ≡ 0) × (counts card ≡ false) × (stops card ≡ false) × (ended card ≡ 0)) }
     {
         let (table, seat) = Table::of_words(alloc, &[0, 0], &())?;
         let roll = Arc::new(alloc, table)?;
@@ -66,7 +67,9 @@ impl Card {
     pub fn hire(&mut self) -> Result<Card, AllocError>
         requires first { IsFirstCard self.old × (hired self.old < 65535) }
         ensures same { HasReadNothing self.old self.new × (counts self.new ≡ counts self.old) × (stops self.new ≡ stops self.old) }
-        ensures other { IfOk result (λ card. (hired self.new ≡ hired self.old + 1) × (roll_of card ≡ roll_of self.old) × (counts card ≡ false) × (stops card ≡ false)) }
+        ensures ended { ended self.new ≡ ended self.old }
+        ensures tells { tells self.new ≡ tells self.old }
+        ensures other { IfOk result (λ card. (hired self.new ≡ hired self.old + 1) × (roll_of card ≡ roll_of self.old) × (counts card ≡ false) × (stops card ≡ false) × (ended card ≡ 0)) }
     {
         let roll = Arc::clone(&self.roll)?;
         let seat = self.roll.shared.split_seat::<Hire>(&mut self.seat);
@@ -88,6 +91,8 @@ impl Card {
     pub fn begin(&mut self)
         ensures same { HasReadNothing self.old self.new × (hired self.new ≡ hired self.old) × (stops self.new ≡ stops self.old) }
         ensures counts { counts self.new ≡ true }
+        ensures ended { ended self.new ≡ ended self.old }
+        ensures tells { tells self.new ≡ tells self.old }
     {
         if !self.at_work {
             self.roll
@@ -102,6 +107,8 @@ impl Card {
     pub fn end(&mut self)
         ensures same { HasReadNothing self.old self.new × (hired self.new ≡ hired self.old) × (stops self.new ≡ stops self.old) }
         ensures counts { counts self.new ≡ false }
+        ensures ended { ended self.new ≡ ended self.old + counted_as (counts self.old) }
+        ensures tells { tells self.new ≡ tells self.old }
     {
         if self.at_work {
             self.roll.shared.fetch_sub::<End>(&mut self.seat, COUNT, 1);
@@ -112,6 +119,8 @@ impl Card {
     /// How many workers are at work.
     pub fn read(&mut self) -> u64
         ensures same { IsSameCard self.old self.new × (hired self.new ≡ hired self.old) × (counts self.new ≡ counts self.old) × (stops self.new ≡ stops self.old) }
+        ensures ended { ended self.new ≡ ended self.old }
+        ensures tells { tells self.new ≡ tells self.old }
         ensures read { last_read self.new ≡ Some result }
         ensures own { counts self.old ≡ true → 0 < result }
     {
@@ -134,6 +143,7 @@ impl Card {
     /// All are to stop, and those that sleep are woken.
     pub fn stop(&mut self)
         ensures same { HasReadNothing self.old self.new × (hired self.new ≡ hired self.old) × (counts self.new ≡ counts self.old) }
+        ensures ended { ended self.new ≡ ended self.old }
         ensures tells { (tells self.new ≡ true) × (stops self.new ≡ true) }
     {
         self.roll.shared.store::<Stop>(&mut self.seat, STOPPED, 1);
@@ -143,6 +153,8 @@ impl Card {
     /// Whether all are to stop.
     pub fn has_stopped(&mut self) -> bool
         ensures same { HasReadNothing self.old self.new × (hired self.new ≡ hired self.old) × (counts self.new ≡ counts self.old) }
+        ensures ended { ended self.new ≡ ended self.old }
+        ensures tells { tells self.new ≡ tells self.old }
         ensures told { result ≡ true → stops self.new ≡ true }
         ensures not_yet { result ≡ false → (stops self.old ≡ false) × (stops self.new ≡ false) }
     {

@@ -4,6 +4,8 @@
 pub struct Turnout {
     /// Its worker is at work.
     pub counts: bool,
+    /// How often its worker was counted off.
+    pub ended: u64,
     /// How many cards were made from it.
     pub hired: u64,
     /// The number that its worker last read on the roll.
