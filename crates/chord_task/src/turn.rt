@@ -163,16 +163,49 @@ fn append_ended(past: &mut Past, list: &mut Vec<Entry>, number: u32, body: u32, 
     }
 }
 
-/// A copy of the end that this ask is; of another ask, none. A number is looked for first.
+/// Copies the text with which a body ends, if this ask is such an end. Other ends are copied where they stand, once their number is drawn.
 #[inline(always)]
-fn second_end(alloc: Global, asked: &Option<Ask>) -> Result<Option<End>, AllocError>
-    ensures { IfOk result (λ second. IsSecondOf second asked.now) }
+fn copy_text(
+    alloc: Global,
+    asked: &Option<Ask>,
+    second: &mut Option<Text>,
+) -> Result<(), AllocError>
+    requires { second.old ≡ None }
+    ensures { OnOk result (second.new ≡ text_of_end asked.now) }
 {
     match asked {
-        Some(Ask::End(End::Gives(Value::Int(lone)))) => Ok(Some(End::Gives(Value::Int(*lone)))),
-        Some(Ask::End(end)) => Ok(Some(end.copied(alloc)?)),
-        _ => Ok(None),
+        Some(Ask::End(End::Gives(Value::Text(text)))) => put_text(second, text.copied(alloc)?),
+        _ => {}
     }
+    Ok(())
+}
+
+/// A copy of an end, for the body below: its text was copied before.
+#[inline(always)]
+fn end_copy(end: &End, second: &mut Option<Text>) -> End
+    requires { second.old ≡ text_given end.now }
+    ensures end { result ≡ end.now }
+    ensures none { second.new ≡ None }
+{
+    match end {
+        End::Gives(Value::Int(lone)) => End::Gives(Value::Int(*lone)),
+        End::Gives(Value::Unit) => End::Gives(Value::Unit),
+        End::Gives(Value::Flag(flag)) => End::Gives(Value::Flag(*flag)),
+        End::Gives(Value::Ref(object)) => End::Gives(Value::Ref(*object)),
+        End::Gives(Value::Text(_)) => match mem::replace(second, None) {
+            Some(text) => End::Gives(Value::Text(text)),
+            None => unreachable!(),
+        },
+        End::Traps(trap) => End::Traps(*trap),
+    }
+}
+
+/// Puts a text where there is none.
+fn put_text(place: &mut Option<Text>, text: Text)
+    requires { place.old ≡ None }
+    ensures { place.new ≡ Some text }
+{
+    mem::forget(mem::replace(place, Some(text)));
 }
 
 /// Drops an ask that did not become an entry. It stands apart, since a drop looks at each kind.
@@ -311,14 +344,12 @@ impl Task {
             Some(body) => {
                 let mut asked = None;
                 advance_to(alloc, code, &mut *body.frames, &mut asked)?;
-                match self.make_room(alloc, code, &asked, list) {
-                    Ok(second) => {
-                        let sent = self.settle(code, number, &mut asked, second, list);
-                        forget_ask(asked);
-                        Ok(sent)
-                    }
-                    Err(error) => Err(error),
-                }
+                let mut second = None;
+                self.make_room(alloc, code, &asked, &mut second, list)?;
+                let sent = self.settle(code, number, &mut asked, &mut second, list);
+                forget_ask(asked);
+                mem::forget(second);
+                Ok(sent)
             }
         }
     }
@@ -331,8 +362,9 @@ impl Task {
         alloc: Global,
         code: &Code,
         asked: &Option<Ask>,
+        second: &mut Option<Text>,
         list: &mut Vec<Entry>,
-    ) -> Result<Option<End>, AllocError>
+    ) -> Result<(), AllocError>
         requires spare { HasRoomFor code.now self.old.limits self.old.spare }
         requires values { MayBeList self.old.values }
         ensures room { OnOk result (HasMadeRoom code.now self.old self.new) }
@@ -343,12 +375,18 @@ impl Task {
         ensures entries { vec_len list.old < vec_capacity list.old → list.new ≡ list.old }
     {
         self.take_room(alloc, code, list)?;
-        second_end(alloc, asked)
+        copy_text(alloc, asked, second)
     }
 
     /// The body on top ends: its end, which is taken, becomes the entry of this number, and its caller gets the copy.
     #[inline(never)]
-    fn end_turn(&mut self, number: u32, end: &mut End, second: Option<End>, list: &mut Vec<Entry>)
+    fn end_turn(
+        &mut self,
+        number: u32,
+        end: &mut End,
+        second: &mut Option<Text>,
+        list: &mut Vec<Entry>,
+    )
         requires place { vec_len list.old < vec_capacity list.old }
         requires runs { RunsOn self.old.top }
         requires ready { LastIsReady self.old.below.items }
@@ -362,11 +400,9 @@ impl Task {
         ensures frames { (b : ABody) → self.old.top ≡ Some b → self.new.ended ≡ Some b.frames }
     {
         let maker = number_of(&self.top);
+        let copy = end_copy(end, second);
         append_ended(&mut self.past, list, number, maker, end);
-        match second {
-            None => unreachable!(),
-            Some(second) => end_top(&mut self.top, &mut self.below, &mut self.ended, second),
-        }
+        end_top(&mut self.top, &mut self.below, &mut self.ended, copy);
     }
 
     /// The ask to which the body on top came becomes the entry of this number, once there is room for it: what owns memory is taken out of it, so that what is
@@ -378,7 +414,7 @@ impl Task {
         code: &Code,
         number: u32,
         asked: &mut Option<Ask>,
-        second: Option<End>,
+        second: &mut Option<Text>,
         list: &mut Vec<Entry>,
     ) -> Option<(Object, u8)>
         requires some { asked.old ≢ None }

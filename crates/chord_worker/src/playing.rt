@@ -19,6 +19,7 @@ use chord_task::task::Task;
 use chord_task::turn::drop_ask;
 use chord_vm::ask::Ask;
 use std::alloc::{AllocError, Global};
+use std::mem;
 
 /// An ask, as what is drawn.
 #[derive(Clone, Copy, Drop)]
@@ -120,10 +121,12 @@ pub(crate) fn draw_own(
     ensures undrawn { OnErr result ((view desk.new ≡ view desk.old) × (draws.new.items ≡ draws.old.items)) }
 {
     let body = top_number(&task.value);
-    let second = task.value.make_room(alloc, code, asked, draws)?;
+    let mut second = None;
+    task.value.make_room(alloc, code, asked, &mut second, draws)?;
     match draw_ask(space, desk, body, asked) {
         Ok(number) => {
-            task.value.settle(code, number, asked, second, draws);
+            task.value.settle(code, number, asked, &mut second, draws);
+            mem::forget(second);
             Ok(Some(number))
         }
         Err(_) => {
