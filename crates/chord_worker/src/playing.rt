@@ -16,10 +16,9 @@ use chord_space::{AsEntry, Desk, Space, Spent};
 use chord_task::apart::Apart;
 use chord_task::parcel::Parcel;
 use chord_task::task::Task;
-use chord_task::turn::drop_ask;
+use chord_task::turn::{drop_ask, forget_text};
 use chord_vm::ask::Ask;
 use std::alloc::{AllocError, Global};
-use std::mem;
 
 /// An ask, as what is drawn.
 #[derive(Clone, Copy, Drop)]
@@ -122,11 +121,12 @@ pub(crate) fn draw_own(
 {
     let body = top_number(&task.value);
     let mut second = None;
-    task.value.make_room(alloc, code, asked, &mut second, draws)?;
+    task.value
+        .make_room(alloc, code, asked, &mut second, draws)?;
     match draw_ask(space, desk, body, asked) {
         Ok(number) => {
             task.value.settle(code, number, asked, &mut second, draws);
-            mem::forget(second);
+            forget_text(second);
             Ok(Some(number))
         }
         Err(_) => {
