@@ -143,7 +143,18 @@ fn append_called(
     }
 }
 
-/// Adds the entry of an end, which is taken. A number is looked for first.
+/// Adds the entry of an end by a number.
+#[inline(always)]
+fn append_number(past: &mut Past, list: &mut Vec<Entry>, number: u32, body: u32, lone: i32)
+    requires { vec_len list.old < vec_capacity list.old }
+    ensures past { past.new ≡ past.old ++ record { number = number; body = body; what = What.Ended (End.Gives (Value.Int lone)) } ∷ [] }
+    ensures items { list.new.items ≡ list.old.items ++ record { number = number; body = body; what = What.Ended (End.Gives (Value.Int lone)) } ∷ [] }
+{
+    let end = End::Gives(Value::Int(lone));
+    append(past, list, number, body, What::Ended(end));
+}
+
+/// Adds the entry of an end, which is taken.
 #[inline(always)]
 fn append_ended(past: &mut Past, list: &mut Vec<Entry>, number: u32, body: u32, end: &mut End)
     requires { vec_len list.old < vec_capacity list.old }
@@ -151,16 +162,8 @@ fn append_ended(past: &mut Past, list: &mut Vec<Entry>, number: u32, body: u32, 
     ensures items { list.new.items ≡ list.old.items ++ record { number = number; body = body; what = What.Ended end.old } ∷ [] }
     ensures bare { IsBareEnd end.new }
 {
-    match end {
-        End::Gives(Value::Int(lone)) => {
-            let lone = End::Gives(Value::Int(*lone));
-            append(past, list, number, body, What::Ended(lone));
-        }
-        _ => {
-            let taken = mem::replace(end, End::Gives(Value::Unit));
-            append(past, list, number, body, What::Ended(taken));
-        }
-    }
+    let taken = mem::replace(end, End::Gives(Value::Unit));
+    append(past, list, number, body, What::Ended(taken));
 }
 
 /// Forgets a place for a text in which there is none, since a drop would look for memory.
@@ -388,7 +391,7 @@ impl Task {
         copy_text(alloc, asked, second)
     }
 
-    /// The body on top ends: its end, which is taken, becomes the entry of this number, and its caller gets a copy.
+    /// The body on top ends: its end, which is taken, becomes the entry of this number, and its caller gets a copy. A number is looked for first, and goes its own way.
     #[inline(never)]
     fn end_turn(
         &mut self,
@@ -411,9 +414,19 @@ impl Task {
         ensures frames { (b : ABody) → self.old.top ≡ Some b → self.new.ended ≡ Some b.frames }
     {
         let maker = number_of(&self.top);
-        let copy = end_copy(end, second);
-        append_ended(&mut self.past, list, number, maker, end);
-        end_top(&mut self.top, &mut self.below, &mut self.ended, copy);
+        match end {
+            End::Gives(Value::Int(lone)) => {
+                let lone = *lone;
+                append_number(&mut self.past, list, number, maker, lone);
+                let given = End::Gives(Value::Int(lone));
+                end_top(&mut self.top, &mut self.below, &mut self.ended, given);
+            }
+            _ => {
+                let copy = end_copy(end, second);
+                append_ended(&mut self.past, list, number, maker, end);
+                end_top(&mut self.top, &mut self.below, &mut self.ended, copy);
+            }
+        }
     }
 
     /// The ask to which the body on top came becomes the entry of this number, once there is room for it: what owns memory is taken out of it, so that what is
