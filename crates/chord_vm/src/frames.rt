@@ -316,7 +316,9 @@ pub fn reserve(alloc: Global, frames: &mut Frames) -> Result<(), AllocError>
     ensures same { (machine_of frames.new ≡ machine_of frames.old) × (frames.new.awaited ≡ frames.old.awaited) }
     ensures ready { OnOk result (IsReady frames.new.awaited frames.new) }
 {
-    frames.top.stack.reserve(1)?;
+    if frames.top.stack.len() == frames.top.stack.capacity() {
+        frames.top.stack.reserve(1)?;
+    }
     match frames.awaited {
         Awaited::ForObject(Some((_, slots)), _) => reserve_builder(alloc, frames, slots),
         _ => Ok(()),

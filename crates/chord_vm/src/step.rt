@@ -12,6 +12,7 @@ ghost use Rattle.chord_vm.specs.declared.ask.Ask.{Ask as AnAsk};
 
 use crate::ask::{Ask, put_ask};
 use crate::frames::{Frame, Frames, fill, move_last};
+use crate::fused::{branches_at_once, keeps_at_once, sends_loaded};
 use crate::loads::asks_at_once;
 use crate::numbers::{operate_on, operator_of, put_value};
 use chord_base::event::{End, Limits, Trap};
@@ -677,6 +678,10 @@ fn run(
         if let Instruction::Int(number) = instruction {
             let number = *number;
             if let Some(operation) = operator_of(following(instructions, parts, frames, number)) {
+                if keeps_at_once(frames, instructions, operation, number) {
+                    instruction = next(instructions, parts, frames);
+                    continue 'steps;
+                }
                 operate_on(frames, operation, number);
                 instruction = next(instructions, parts, frames);
                 continue 'steps;
@@ -685,6 +690,17 @@ fn run(
         if let Instruction::Load(slot) = instruction {
             let slot = *slot as usize;
             let behind = behind_load(instructions, parts, frames, slot);
+            if let Instruction::Int(number) = behind {
+                if branches_at_once(frames, instructions, slot, *number) {
+                    instruction = next(instructions, parts, frames);
+                    continue 'steps;
+                }
+            }
+            if let Instruction::Load(argument) = behind {
+                if sends_loaded(frames, instructions, slot, *argument as usize, asked) {
+                    return Ok(());
+                }
+            }
             if asks_at_once(frames, slot, behind, asked) {
                 return Ok(());
             }
