@@ -52,9 +52,9 @@ fn number_on_top(frames: &Frames) -> Option<i32>
     }
 }
 
-/// The number to which an operator brings two numbers, if it gives a number always.
+/// The sum, the difference or the product of two numbers, if the operator is one of these.
 #[inline(always)]
-fn number_of_both(operation: Operation, left: i32, right: i32) -> Option<i32>
+fn result_of(operation: Operation, left: i32, right: i32) -> Option<i32>
     ensures { IfSome result (λ number. compute_of operation (Value.Int left) (Value.Int right) ≡ Is (Value.Int number)) }
 {
     match operation {
@@ -77,7 +77,8 @@ fn slot_stored(instructions: &[Instruction], place: usize) -> Option<usize>
     }
 }
 
-/// Whether a number goes to a slot in which a number stands, in place of what stands on top. It then does, behind three instructions.
+/// Whether a number is stored in a slot in which a number stands, which it then is, in place of the number on top. Of neither there is
+/// anything to drop. The body is then three instructions further.
 #[inline(always)]
 fn keep_number(frames: &mut Frames, slot: usize, number: i32) -> bool
     requires some { (machine_of frames.old).top.stack ≢ [] }
@@ -97,7 +98,7 @@ fn keep_number(frames: &mut Frames, slot: usize, number: i32) -> bool
     }
 }
 
-/// Whether a number goes to the number on top by an operator, and the result to a slot in which a number stands. All three instructions are
+/// Whether a number and the number on top go to an operator, and its result to a slot in which a number stands. All three instructions are
 /// then done, and nothing otherwise.
 #[inline(always)]
 pub(crate) fn stores_at_once(
@@ -119,7 +120,7 @@ pub(crate) fn stores_at_once(
         None => false,
         Some(slot) => match number_on_top(frames) {
             None => false,
-            Some(left) => match number_of_both(operation, left, right) {
+            Some(left) => match result_of(operation, left, right) {
                 None => false,
                 Some(number) => keep_number(frames, slot, number),
             },
@@ -263,7 +264,7 @@ pub(crate) fn sends_loaded(
     }
 }
 
-/// What is done at once where a value is loaded.
+/// What was done at once where a value is loaded.
 pub(crate) enum AtOnce {
     /// Nothing.
     Nothing,
@@ -273,8 +274,8 @@ pub(crate) enum AtOnce {
     Ask,
 }
 
-/// Does a load and what stands behind it at once, if they are among what stands in blocks most often: a branch on a number, a message with
-/// a number, or an ask with what is loaded.
+/// Does a load and what stands behind it at once where that is what stands in blocks most often: a branch on a number, a message with a
+/// number, or an ask with what is loaded. Where it is not, nothing was done.
 #[inline(always)]
 pub(crate) fn load_at_once(
     frames: &mut Frames,

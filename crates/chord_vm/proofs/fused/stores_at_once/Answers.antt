@@ -8,8 +8,8 @@ use Rattle.chord_vm.specs.Frames.{machine_of, with_pushed}
 use Rattle.chord_vm.proofs.Advance.{first_of, fetch_at, number_pushed}
 use Rattle.chord_vm.proofs.fused.stores_at_once.Goals as goal
 
-pub returns-in-Some-number_of_both-clause-yes : goal.returns-in-Some-number_of_both-clause-yes
-returns-in-Some-number_of_both-clause-yes c = λ yes.
+pub returns-in-Some-result_of-clause-yes : goal.returns-in-Some-result_of-clause-yes
+returns-in-Some-result_of-clause-yes c = λ yes.
     let code = c.args.parts.now in
     let m = machine_of c.args.frames.now in
     let xs = c.args.instructions.now in
@@ -17,10 +17,10 @@ returns-in-Some-number_of_both-clause-yes c = λ yes.
     let right = to_z w32 (of_z w32 c.args.right) in
     let same : c.args.right ≡ right = search (rules, c.ranges.right.sfits) in
     let pushed = with_pushed (a_value.Int right) m in
-    let result = a_value.Int (to_z w32 (of_z w32 c.in-Some-number_of_both.number)) in
+    let result = a_value.Int (to_z w32 (of_z w32 c.in-Some-result_of.number)) in
     let left = a_value.Int (to_z w32 (of_z w32 c.in-Some-number_on_top.left)) in
     let known : c.in-Some-number_on_top.left ≡ to_z w32 (of_z w32 c.in-Some-number_on_top.left) = search (rules, c.number_on_top.type_inv, c.in-Some-number_on_top.is) in
-    let given : c.in-Some-number_of_both.number ≡ to_z w32 (of_z w32 c.in-Some-number_of_both.number) = search (rules, c.number_of_both.type_inv, c.in-Some-number_of_both.is) in
+    let given : c.in-Some-result_of.number ≡ to_z w32 (of_z w32 c.in-Some-result_of.number) = search (rules, c.result_of.type_inv, c.in-Some-result_of.is) in
     let computed = with_top m (suc (suc m.top.place)) (result ∷ kept.1) m.top.slots m.turns in
     let n = machine_of c.keep_number.new.frames in
     let third : suc (suc m.top.place) ≡ c.args.frames.now.top.place + 2 = omega arith in
@@ -30,7 +30,7 @@ returns-in-Some-number_of_both-clause-yes c = λ yes.
     (first_of code 1 pushed computed (Goes n)
     (c.requires.operator pushed ∙ ap (λ s. operate c.args.operation pushed (a_value.Int right ∷ s)) kept.2
     ∙ ap (λ v. pushes pushed kept.1 (compute c.args.operation v (a_value.Int right))) on_top
-    ∙ ap (pushes pushed kept.1) (c.in-Some-number_of_both.ensures ∙ ap (λ k. Is (a_value.Int k)) given))
+    ∙ ap (pushes pushed kept.1) (c.in-Some-result_of.ensures ∙ ap (λ k. Is (a_value.Int k)) given))
     (first_of code 0 computed n (Goes n)
     (ap (λ o. act code o computed) (fetch_at code computed xs c.requires.here ∙ ap (slice_get xs) third ∙ c.in-Some.ensures.slot)
     ∙ ap (λ p. store_top c.in-Some.slot (with_top m p (result ∷ kept.1) m.top.slots m.turns) (result ∷ kept.1)) third ∙ kept.3) refl))
