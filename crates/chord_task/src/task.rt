@@ -8,7 +8,7 @@ ghost use Rattle.chord_base.specs.Printed.{is_end};
 ghost use Rattle.chord_code.specs.declared.parts.Parts.{Parts};
 ghost use Rattle.chord_code.specs.Meaning.{code_program, chord_lines};
 ghost use Rattle.chord_vm.specs.declared.frames.Frames.{Frames as TheFrames};
-ghost use Rattle.chord_vm.specs.Frames.{IsCopiedInPlace, laid, what_of_ask};
+ghost use Rattle.chord_vm.specs.Frames.{IsAlwaysCopied, laid, what_of_ask};
 ghost use Rattle.chord_task.specs.declared.body.Body.{Body as ABody};
 ghost use Rattle.chord_task.specs.Arguments.{for_entry, AreTwice, MayBeList, IsList, HasOneAtMost};
 ghost use Rattle.chord_task.specs.Past.{AddsOne};
@@ -565,9 +565,8 @@ impl Task {
         }
     }
 
-    /// Puts the body of a firing on top, with copies of these values in its slots; members and values go into its entry. Takes memory for texts of more than
-    /// 8 bytes alone.
-    /// Where none is found, the task can only be dropped.
+    /// Puts the body of a firing on top, with copies of these values in its slots; members and values go into its entry. Takes no memory, and
+    /// fails only where a text of more than 8 bytes has too many owners. Where it fails, the task can only be dropped.
     #[inline(always)]
     pub fn resume_with(
         &mut self,
@@ -589,7 +588,7 @@ impl Task {
         ensures listed { OnOk result (AddsOne self.old.past self.new.past list.old.items list.new.items) }
         ensures ended { self.new.ended ≡ self.old.ended }
         ensures values { self.new.values ≡ self.old.values }
-        ensures short { All IsCopiedInPlace values.old → IsOk result }
+        ensures short { All IsAlwaysCopied values.old → IsOk result }
     {
         let depth = depth_over(self.limits.depth, &self.top);
         let block = line_of(code, object.class, chord).block;

@@ -1,5 +1,5 @@
 -- From one instruction to the next ask.
-use Rattle.std.proofs.Common.{◌≡◌, ℕ, ℤ, zero, suc, ◌+◌, ◌<◌, List, [], ◌∷◌, Option, Some, None, length, get_or, refl, sym, ◌∙◌, ap, arith, ◌⊎◌, inl, inr, ⊎_elim}
+use Rattle.std.proofs.Common.{◌≡◌, ℕ, ℤ, zero, suc, ◌+◌, ◌<◌, ◌≤◌, List, [], ◌∷◌, Option, Some, None, length, get_or, refl, sym, ◌∙◌, ap, subst, arith, ◌⊎◌, inl, inr, ⊎_elim}
 use Rattle.std.specs.Prelude.{slice_get}
 use Rattle.std.proofs.lemmas.Option.{slice_get_past}
 use Rattle.std.proofs.lemmas.Bool.{cases_lt}
@@ -16,7 +16,9 @@ use Rattle.chord_code.specs.declared.awaited.Awaited.TheVariants.{ForNothing}
 use Rattle.chord_code.specs.declared.parts.Block.{Block}
 use Rattle.chord_code.specs.declared.parts.Parts.{Parts}
 use Rattle.chord_vm.specs.declared.frames.Frames.{Frames}
-use Rattle.chord_code.specs.Machine.{Machine, Waiting, Did, Goes, Asking, Bad, instr_in, fetch, act, step, loads, goes_on, run, ComesTo, ComesToAsk}
+use Rattle.chord_code.specs.Machine.{Machine, Waiting, Did, Goes, Asking, Bad, instr_in, fetch, act, step, loads, goes_on, run, ComesTo, ComesToAsk, IsForward}
+use Rattle.chord_code.specs.Fuel.{weight}
+use Rattle.chord_code.proofs.Weight.{lighter}
 use Rattle.chord_vm.specs.Frames.{machine_of, waiting_of, SteppedTo, HasStepped, Advanced, instructions_of, instructions_in, frame_with, with_pushed}
 use Rattle.chord_vm.specs.declared.step.After.{After}
 use Rattle.chord_vm.specs.declared.step.After.TheVariants as steps
@@ -94,6 +96,71 @@ advanced_on code m m' (ask.Send o j xs) f s h = comes_on code m m' (Sent o j xs)
 advanced_on code m m' (ask.Call o j xs) f s h = comes_on code m m' (Called o j xs) (waiting_of f) s h
 advanced_on code m m' (ask.Print v) f s h = comes_on code m m' (Printed v) (waiting_of f) s h
 
+-- an instruction, and those behind it
+pub first_of : (code : Parts) (n : ℕ) (m m' : Machine) (d : Did) → step code m ≡ Goes m' → run code n m' ≡ d → run code (suc n) m ≡ d
+first_of code n m m' d e r = ap (goes_on (run code n)) e ∙ r
+
+-- one instruction
+pub one_of : (code : Parts) (m : Machine) → run code 1 m ≡ step code m
+one_of code m = nothing_behind (step code m)
+  where
+    nothing_behind : (d : Did) → goes_on (run code 0) d ≡ d
+    nothing_behind (Goes k) = refl
+    nothing_behind (Asking a w) = refl
+    nothing_behind Bad = refl
+
+-- where instructions go on, the first one does, and those behind it
+ran_first : (code : Parts) (n : ℕ) (d : Did) (m' : Machine) → goes_on (run code n) d ≡ Goes m' → (k : Machine) × (d ≡ Goes k) × (run code n k ≡ Goes m')
+ran_first code n (Goes k) m' e = (k, refl, e)
+ran_first code n (Asking a w) m' e = cc
+ran_first code n Bad m' e = cc
+
+-- an instruction that goes on is there
+did_some : (code : Parts) (m k : Machine) (o : Option Instruction) → act code o m ≡ Goes k → (i : Instruction) × (o ≡ Some i)
+did_some code m k None e = cc
+did_some code m k (Some i) e = (i, refl)
+
+-- an instruction that goes on leaves less to do
+step_lighter : (code : Parts) (m k : Machine) → IsForward code → step code m ≡ Goes k → weight code k < weight code m
+step_lighter code m k forward e =
+    let i = did_some code m k (fetch code m.top.block m.top.place) e in
+    lighter code m k i.0 forward i.1 (ap (λ o. act code o m) (sym i.1) ∙ e)
+
+-- instructions that go on leave no more to do
+ran_light : (code : Parts) (n : ℕ) (m m' : Machine) → IsForward code → run code n m ≡ Goes m' → weight code m' ≤ weight code m
+ran_light code zero m m' forward e = (let same : m ≡ m' = cc in omega (arith, ap (weight code) same))
+ran_light code (suc n) m m' forward e =
+    let k = ran_first code n (step code m) m' e in
+    let first = step_lighter code m k.0 forward k.1 in
+    let rest = ran_light code n k.0 m' forward k.2 in
+    omega (arith, first, rest)
+
+-- one or more instructions that go on leave less to do
+pub ran_lighter : (code : Parts) (n : ℕ) (m m' : Machine) → IsForward code → run code (suc n) m ≡ Goes m' → weight code m' < weight code m
+ran_lighter code n m m' forward e =
+    let k = ran_first code n (step code m) m' e in
+    let first = step_lighter code m k.0 forward k.1 in
+    let rest = ran_light code n k.0 m' forward k.2 in
+    omega (arith, first, rest)
+
+-- a machine that comes to an ask still does after instructions that go on
+pub ran_defined : (code : Parts) (n : ℕ) (m m' : Machine) → run code n m ≡ Goes m' → ComesToAsk code m → ComesToAsk code m'
+ran_defined code zero m m' e d = (let same : m ≡ m' = cc in subst (ComesToAsk code) same d)
+ran_defined code (suc n) m m' e d = (let k = ran_first code n (step code m) m' e in ran_defined code n k.0 m' k.2 (defined_on code m k.0 k.1 d))
+
+-- after instructions that go on, what the machine comes to is what it came to before
+pub ran_advanced : (code : Parts) (n : ℕ) (m m' : Machine) (a : Ask) (f : Frames) → run code n m ≡ Goes m' → Advanced code m' a f → Advanced code m a f
+ran_advanced code zero m m' a f e h = (let same : m ≡ m' = cc in subst (λ k. Advanced code k a f) (sym same) h)
+ran_advanced code (suc n) m m' a f e h = (let k = ran_first code n (step code m) m' e in advanced_on code m k.0 a f k.1 (ran_advanced code n k.0 m' a f k.2 h))
+
+-- what instructions come to is what the machine comes to
+pub ran_to_ask : (code : Parts) (n : ℕ) (m : Machine) (a : Ask) (f : Frames) → SteppedTo (run code n m) (Some a) f → Advanced code m a f
+ran_to_ask code n m (ask.End e) f h = (h.0, record { count = n; by = h.1 })
+ran_to_ask code n m (ask.Make c) f h = record { count = n; by = h }
+ran_to_ask code n m (ask.Send o j xs) f h = record { count = n; by = h }
+ran_to_ask code n m (ask.Call o j xs) f h = record { count = n; by = h }
+ran_to_ask code n m (ask.Print v) f h = record { count = n; by = h }
+
 -- the place is in the code
 pub fetch_some : (code : Parts) (m : Machine) → ComesToAsk code m → fetch code m.top.block m.top.place ≡ None → ⊥
 fetch_some code m d e = not_bad code m d (ap (λ o. act code o m) e)
@@ -133,7 +200,7 @@ instr_of None xs p e = absurd (no e)
 instr_of (Some b) xs p e = (let z : b.instructions ≡ xs = cc in ap (λ l. slice_get l p) z)
 
 -- what is fetched is one of the instructions at work
-fetch_at : (code : Parts) (m : Machine) (xs : List Instruction) → instructions_in code m.top.block ≡ Some xs → fetch code m.top.block m.top.place ≡ slice_get xs m.top.place
+pub fetch_at : (code : Parts) (m : Machine) (xs : List Instruction) → instructions_in code m.top.block ≡ Some xs → fetch code m.top.block m.top.place ≡ slice_get xs m.top.place
 fetch_at code m xs e = instr_of (slice_get code.blocks m.top.block) xs m.top.place e
 
 -- the place is one of theirs

@@ -1,6 +1,7 @@
 -- Slots that are set, and values that are taken off the stack.
 use Rattle.std.proofs.Common.{◌≡◌, ◌≢◌, ℕ, zero, suc, ◌+◌, ◌-◌, ◌<◌, ◌≤◌, List, [], ◌∷◌, ◌++◌, Option, Some, None, length, refl, sym, ◌∙◌, ap, arith, append_assoc, take, drop, length-drop, ⊎_elim, replicate}
-use Rattle.std.specs.Prelude.{slice_set, slice_index_or, reverse}
+use Rattle.std.specs.Prelude.{slice_get, slice_set, slice_index_or, reverse}
+use Rattle.std.proofs.lemmas.Option.{slice_get_past}
 use Rattle.std.proofs.lemmas.List.{take_all, reverse-append, length-reverse, take-append-drop}
 use Rattle.std.proofs.lemmas.Bool.{cases_lt}
 use Rattle.std.proofs.Math.Seq.{take-length}
@@ -27,6 +28,13 @@ slots_past (suc i) v (x ∷ xs) h = ap (with_first x) (slots_past i v xs (omega 
 -- a slot that is set is there
 pub slots_within : (i : ℕ) (v : Value) (xs : List Value) → set_slot i v xs ≢ None → i < length xs
 slots_within i v xs h = ⊎_elim (λ lt. lt) (λ le. absurd (h (slots_past i v xs le))) (cases_lt i (length xs))
+
+-- a slot that has a value is there
+pub slot_within : (i : ℕ) (v : Value) (xs : List Value) → slice_get xs i ≡ Some v → i < length xs
+slot_within i v xs h = ⊎_elim (λ lt. lt) (λ le. absurd (no (sym (slice_get_past xs i le) ∙ h))) (cases_lt i (length xs))
+  where
+    no : None ≡ Some v → ⊥
+    no e = cc
 
 -- to pop a list that was pushed in its order, and then m more, is to pop these m before the list
 pops_more : (b : List Value) (m : ℕ) (ys t : List Value) → pops (length b + m) ys (reverse b ++ t) ≡ pops m (b ++ ys) t

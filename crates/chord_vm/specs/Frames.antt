@@ -103,13 +103,13 @@ abbrev pub laid : List (List Value) → List Value
 laid [] = []
 laid (xs ∷ rest) = xs ++ laid rest
 
--- a copy of the value takes no memory: it is no text, or one of at most eight bytes
-abbrev pub IsCopiedInPlace : Value → Type 0
-IsCopiedInPlace a_value.Unit = Unit {0}
-IsCopiedInPlace (a_value.Int i) = Unit {0}
-IsCopiedInPlace (a_value.Flag b) = Unit {0}
-IsCopiedInPlace (a_value.Text bytes) = length bytes ≤ 8
-IsCopiedInPlace (a_value.Ref o) = Unit {0}
+-- a copy of the value never fails: it is no text, or one of at most eight bytes (that of a longer text takes no memory either, and fails where the text has too many owners)
+abbrev pub IsAlwaysCopied : Value → Type 0
+IsAlwaysCopied a_value.Unit = Unit {0}
+IsAlwaysCopied (a_value.Int i) = Unit {0}
+IsAlwaysCopied (a_value.Flag b) = Unit {0}
+IsAlwaysCopied (a_value.Text bytes) = length bytes ≤ 8
+IsAlwaysCopied (a_value.Ref o) = Unit {0}
 
 -- the slots have room for this block's
 abbrev pub IsSpacious : Frames → Option Block → Type 0

@@ -4,7 +4,7 @@
 ghost use Rattle.std.specs.Prelude.{◌≡◌, ◌≢◌, ◌+◌, ◌-◌, ◌<◌, ◌≤◌, true, false, List, [], ◌∷◌, ◌++◌, IfOk, IsOk, OnOk, All, Some, None, length, slice_get, vec_len, vec_capacity, reverse, replicate};
 ghost use Rattle.chord_code.specs.Slots.{first_slots};
 ghost use Rattle.chord_code.specs.Machine.{body_in_block, with_answer, with_object, pops};
-ghost use Rattle.chord_vm.specs.Frames.{machine_of, IsCopiedInPlace, IsSpacious, IsReady, HasRoom, IsMoved, IsRoomFor, laid};
+ghost use Rattle.chord_vm.specs.Frames.{shown_frame, machine_of, frame_with, IsAlwaysCopied, IsSpacious, IsReady, HasRoom, IsMoved, IsRoomFor, laid};
 
 use chord_base::event::Limits;
 use chord_base::hand::Hand;
@@ -85,6 +85,16 @@ pub fn can_begin(code: &Code, limits: &Limits, frames: &Frames) -> bool
         return false;
     }
     frames.top.slots.capacity() >= code.most_slots() as usize
+}
+
+/// Pops. The stack keeps the room of the value.
+#[inline(always)]
+pub(crate) fn take(frame: &mut Frame) -> Value
+    requires { (shown_frame frame.old).stack ≢ [] }
+    ensures popped { shown_frame frame.old ≡ frame_with (shown_frame frame.new) frame.new.place (result ∷ (shown_frame frame.new).stack) (shown_frame frame.new).slots }
+    ensures room { vec_len frame.new.stack < vec_capacity frame.new.stack }
+{
+    frame.stack.take_last()
 }
 
 /// Moves the last values, so many, to the end of another list, in their order.
@@ -168,7 +178,7 @@ fn lay_copy(alloc: Global, slots: &mut Vec<Value>, value: &Value) -> Result<(), 
     ensures items { OnOk result (slots.new.items ≡ slots.old.items ++ value.now ∷ []) }
     ensures len { OnOk result (vec_len slots.new ≡ vec_len slots.old + 1) }
     ensures capacity { vec_capacity slots.new ≡ vec_capacity slots.old }
-    ensures short { IsCopiedInPlace value.now → IsOk result }
+    ensures short { IsAlwaysCopied value.now → IsOk result }
 {
     match value {
         Value::Int(number) => {
@@ -180,14 +190,15 @@ fn lay_copy(alloc: Global, slots: &mut Vec<Value>, value: &Value) -> Result<(), 
     }
 }
 
-/// Adds a copy of a value that may be a text. One of up to 8 bytes takes no memory, nor does what is no text.
+/// Adds a copy of a value that may be a text. What is no text is copied always, and so is a text of up to 8 bytes; the copy of a longer one
+/// fails where the text has too many owners. `Value::copied` makes the same copy, and does not say when it succeeds.
 #[inline(never)]
 fn lay_other(alloc: Global, slots: &mut Vec<Value>, value: &Value) -> Result<(), AllocError>
     requires { vec_len slots.old < vec_capacity slots.old }
     ensures items { OnOk result (slots.new.items ≡ slots.old.items ++ value.now ∷ []) }
     ensures len { OnOk result (vec_len slots.new ≡ vec_len slots.old + 1) }
     ensures capacity { vec_capacity slots.new ≡ vec_capacity slots.old }
-    ensures short { IsCopiedInPlace value.now → IsOk result }
+    ensures short { IsAlwaysCopied value.now → IsOk result }
 {
     let copy = match value {
         Value::Unit => Value::Unit,
@@ -218,7 +229,7 @@ pub fn lay_copies(alloc: Global, slots: &mut Vec<Value>, values: &[Value]) -> Re
     requires { vec_len slots.old + length values.now ≤ vec_capacity slots.old }
     ensures items { OnOk result (slots.new.items ≡ slots.old.items ++ values.now) }
     ensures capacity { vec_capacity slots.new ≡ vec_capacity slots.old }
-    ensures short { All IsCopiedInPlace values.now → IsOk result }
+    ensures short { All IsAlwaysCopied values.now → IsOk result }
 {
     for value in values {
         lay_copy(alloc, slots, value)?;
@@ -238,7 +249,7 @@ fn fill_with(
     requires fits { first_slots n (this ∷ values.now) ≢ None }
     requires room { n ≤ vec_capacity slots.old }
     ensures filled { OnOk result (first_slots n (this ∷ values.now) ≡ Some slots.new.items) }
-    ensures short { All IsCopiedInPlace values.now → IsOk result }
+    ensures short { All IsAlwaysCopied values.now → IsOk result }
 {
     clear(slots);
     slots.push_reserved(this);
@@ -285,7 +296,8 @@ pub fn begin(
     open(frames, block, depth);
 }
 
-/// Begins a body in a block with copies of these arguments. Takes memory for texts of more than 8 bytes alone. Where none is found, the frames are of no body.
+/// Begins a body in a block with copies of these arguments. Takes no memory, and fails only where a text of more than 8 bytes has too many
+/// owners. Where it fails, the frames are of no body.
 #[inline(always)]
 pub fn begin_with(
     alloc: Global,
@@ -301,7 +313,7 @@ pub fn begin_with(
     ensures begun { OnOk result (body_in_block code.now block (frames.old.limits.depth - depth) (this ∷ arguments.now) frames.old.limits.turns ≡ Some (machine_of frames.new)) }
     ensures awaits { OnOk result (frames.new.awaited ≡ Awaited.ForNothing) }
     ensures limits { frames.new.limits ≡ frames.old.limits }
-    ensures short { All IsCopiedInPlace arguments.now → IsOk result }
+    ensures short { All IsAlwaysCopied arguments.now → IsOk result }
 {
     let block = block as usize;
     let slots = code.parts().blocks.items()[block].slots as usize;
@@ -316,7 +328,9 @@ pub fn reserve(alloc: Global, frames: &mut Frames) -> Result<(), AllocError>
     ensures same { (machine_of frames.new ≡ machine_of frames.old) × (frames.new.awaited ≡ frames.old.awaited) }
     ensures ready { OnOk result (IsReady frames.new.awaited frames.new) }
 {
-    frames.top.stack.reserve(1)?;
+    if frames.top.stack.len() == frames.top.stack.capacity() {
+        frames.top.stack.reserve(1)?;
+    }
     match frames.awaited {
         Awaited::ForObject(Some((_, slots)), _) => reserve_builder(alloc, frames, slots),
         _ => Ok(()),

@@ -7,6 +7,7 @@
 
 pub mod ask;
 pub mod frames;
+mod fused;
 mod loads;
 mod numbers;
 pub mod step;

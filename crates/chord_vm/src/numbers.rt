@@ -44,7 +44,7 @@ fn number_of(value: &Value) -> i32
 
 /// Another number comes in the place of a number. Nothing else of the value is written.
 #[inline(always)]
-fn set_number(value: &mut Value, number: i32)
+pub(crate) fn set_number(value: &mut Value, number: i32)
     requires { (n : ℤ) × (value.old ≡ Value.Int n) }
     ensures { value.new ≡ Value.Int number }
 {

@@ -11,8 +11,8 @@ ghost use Rattle.chord_vm.specs.declared.frames.Frames.{Frames as TheFrames};
 ghost use Rattle.chord_vm.specs.declared.ask.Ask.{Ask as AnAsk};
 
 use crate::ask::{Ask, put_ask};
-use crate::frames::{Frame, Frames, fill, move_last};
-use crate::loads::asks_at_once;
+use crate::frames::{Frame, Frames, fill, move_last, take};
+use crate::fused::{AtOnce, load_at_once, stores_at_once};
 use crate::numbers::{operate_on, operator_of, put_value};
 use chord_base::event::{End, Limits, Trap};
 use chord_base::operation::{Operation, compute, deny, negate, printed};
@@ -92,16 +92,6 @@ fn push(frame: &mut Frame, value: Value) -> Result<(), AllocError>
     }
     push_reserved(frame, value);
     Ok(())
-}
-
-/// Pops. The stack keeps the room of the value.
-#[inline(always)]
-fn take(frame: &mut Frame) -> Value
-    requires { (shown_frame frame.old).stack ≢ [] }
-    ensures popped { shown_frame frame.old ≡ frame_with (shown_frame frame.new) frame.new.place (result ∷ (shown_frame frame.new).stack) (shown_frame frame.new).slots }
-    ensures room { vec_len frame.new.stack < vec_capacity frame.new.stack }
-{
-    frame.stack.take_last()
 }
 
 /// Pops values, so many, and gives them in the order in which they were pushed.
@@ -657,8 +647,8 @@ fn behind_load<'a>(
     &instructions[frames.top.place + 1]
 }
 
-/// Runs to the next ask, which is put.
-#[inline(never)]
+/// Runs to the next ask, which is put. It stands in line: a turn that calls it saves all registers for a few instructions.
+#[inline(always)]
 fn run(
     alloc: Global,
     parts: &Parts,
@@ -677,6 +667,10 @@ fn run(
         if let Instruction::Int(number) = instruction {
             let number = *number;
             if let Some(operation) = operator_of(following(instructions, parts, frames, number)) {
+                if stores_at_once(frames, parts, instructions, operation, number) {
+                    instruction = next(instructions, parts, frames);
+                    continue 'steps;
+                }
                 operate_on(frames, operation, number);
                 instruction = next(instructions, parts, frames);
                 continue 'steps;
@@ -685,8 +679,13 @@ fn run(
         if let Instruction::Load(slot) = instruction {
             let slot = *slot as usize;
             let behind = behind_load(instructions, parts, frames, slot);
-            if asks_at_once(frames, slot, behind, asked) {
-                return Ok(());
+            match load_at_once(frames, parts, instructions, slot, behind, asked) {
+                AtOnce::Nothing => {}
+                AtOnce::Branch => {
+                    instruction = next(instructions, parts, frames);
+                    continue 'steps;
+                }
+                AtOnce::Ask => return Ok(()),
             }
             load(alloc, frames, slot)?;
             instruction = next(instructions, parts, frames);

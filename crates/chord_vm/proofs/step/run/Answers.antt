@@ -1,13 +1,13 @@
-use Rattle.std.proofs.Common.{◌≡◌, ◌<◌, Some, refl, ap, ◌∙◌, sym, subst, arith, to_z, of_z, w32}
+use Rattle.std.proofs.Common.{◌≡◌, ◌≢◌, ◌<◌, ◌∷◌, Some, refl, ap, ◌∙◌, sym, subst, arith, to_z, of_z, w32}
 use Rattle.std.specs.Prelude.{slice_get}
 use Rattle.chord_code.specs.declared.instruction.Instruction.TheVariants as instr
-use Rattle.chord_code.specs.Machine.{act, step, fetch, loads, operate, Goes, ComesToAsk}
+use Rattle.chord_code.specs.Machine.{act, step, loads, operate, run, Goes, Bad, ComesToAsk}
 use Rattle.chord_vm.specs.declared.frames.Frames.{Frames}
 use Rattle.chord_vm.specs.declared.step.After.TheVariants as steps
 use Rattle.chord_code.specs.Fuel.{weight}
 use Rattle.chord_vm.specs.Frames.{machine_of, SteppedTo, instructions_in, with_pushed}
 use Rattle.chord_base.specs.declared.value.Value.TheVariants as a_value
-use Rattle.chord_vm.proofs.Advance.{not_bad, put_ask, went_to, moved_to, stepped_advanced, advanced_on, defined_on, value_pushed}
+use Rattle.chord_vm.proofs.Advance.{not_bad, put_ask, went_to, moved_to, stepped_advanced, advanced_on, defined_on, ran_defined, ran_lighter, ran_advanced, ran_to_ask}
 use Rattle.chord_vm.proofs.Stays.{stays}
 use Rattle.chord_code.proofs.Weight.{lighter}
 use Rattle.chord_code.proofs.Validity.{valid_forward}
@@ -97,6 +97,70 @@ steps-preserved c =
       goes_on = λ a f h. c.steps.invariant.goes_on a f (advanced_on code m (machine_of c.step.new.frames) a f e h);
     }
 
+pub stores_at_once-requires-clause-operator : goal.stores_at_once-requires-clause-operator
+stores_at_once-requires-clause-operator c = λ m. ap (λ o. act c.args.parts.now o m) c.following.ensures.instruction ∙ c.in-Some.ensures.1 c.args.parts.now m
+
+pub next-instruction-requires-then-stores_at_once-clause-sound : goal.next-instruction-requires-then-stores_at_once-clause-sound
+next-instruction-requires-then-stores_at_once-clause-sound c =
+    ran_defined c.args.parts.now 3 (machine_of c.steps.frames) (machine_of c.stores_at_once.new.frames) (c.stores_at_once.ensures.yes c.if-stores_at_once.true) c.steps.invariant.defined
+
+pub next-instruction-requires-then-stores_at_once-clause-here : goal.next-instruction-requires-then-stores_at_once-clause-here
+next-instruction-requires-then-stores_at_once-clause-here c = ap (instructions_in c.args.parts.now) c.stores_at_once.ensures.block ∙ c.steps.invariant.here
+
+pub steps-smaller-then-stores_at_once : goal.steps-smaller-then-stores_at_once
+steps-smaller-then-stores_at_once c =
+    ran_lighter c.args.parts.now 2 (machine_of c.steps.frames) (machine_of c.stores_at_once.new.frames) (valid_forward c.args.parts.now c.requires.valid) (c.stores_at_once.ensures.yes c.if-stores_at_once.true)
+
+pub steps-preserved-then-stores_at_once : goal.steps-preserved-then-stores_at_once
+steps-preserved-then-stores_at_once c =
+    let code = c.args.parts.now in
+    let m = machine_of c.steps.frames in
+    let n = machine_of c.stores_at_once.new.frames in
+    let ran : run code 3 m ≡ Goes n = c.stores_at_once.ensures.yes c.if-stores_at_once.true in
+    record {
+      fetched = c.next-instruction-then-stores_at_once.ensures.instruction;
+      here = ap (instructions_in code) c.stores_at_once.ensures.block ∙ c.steps.invariant.here;
+      within = c.next-instruction-then-stores_at_once.ensures.within;
+      fits = c.next-instruction-then-stores_at_once.ensures.fits;
+      defined = ran_defined code 3 m n ran c.steps.invariant.defined;
+      goes_on = λ a f h. c.steps.invariant.goes_on a f (ran_advanced code 3 m n a f ran h);
+    }
+
+pub next-instruction-requires-in-Branch-clause-sound : goal.next-instruction-requires-in-Branch-clause-sound
+next-instruction-requires-in-Branch-clause-sound c =
+    ran_defined c.args.parts.now 4 (machine_of c.steps.frames) (machine_of c.load_at_once.new.frames) (c.load_at_once.ensures.branch c.in-Branch.is) c.steps.invariant.defined
+
+pub next-instruction-requires-in-Branch-clause-here : goal.next-instruction-requires-in-Branch-clause-here
+next-instruction-requires-in-Branch-clause-here c = ap (instructions_in c.args.parts.now) (c.load_at_once.ensures.block c.in-Branch.is) ∙ c.steps.invariant.here
+
+pub steps-smaller-in-Branch : goal.steps-smaller-in-Branch
+steps-smaller-in-Branch c =
+    ran_lighter c.args.parts.now 3 (machine_of c.steps.frames) (machine_of c.load_at_once.new.frames) (valid_forward c.args.parts.now c.requires.valid) (c.load_at_once.ensures.branch c.in-Branch.is)
+
+pub steps-preserved-in-Branch : goal.steps-preserved-in-Branch
+steps-preserved-in-Branch c =
+    let code = c.args.parts.now in
+    let m = machine_of c.steps.frames in
+    let n = machine_of c.load_at_once.new.frames in
+    let ran : run code 4 m ≡ Goes n = c.load_at_once.ensures.branch c.in-Branch.is in
+    record {
+      fetched = c.next-instruction-in-Branch.ensures.instruction;
+      here = ap (instructions_in code) (c.load_at_once.ensures.block c.in-Branch.is) ∙ c.steps.invariant.here;
+      within = c.next-instruction-in-Branch.ensures.within;
+      fits = c.next-instruction-in-Branch.ensures.fits;
+      defined = ran_defined code 4 m n ran c.steps.invariant.defined;
+      goes_on = λ a f h. c.steps.invariant.goes_on a f (ran_advanced code 4 m n a f ran h);
+    }
+
+pub returns-in-Ask : goal.returns-in-Ask
+returns-in-Ask c =
+    let code = c.args.parts.now in
+    let m = machine_of c.steps.frames in
+    let f = c.load_at_once.new.frames in
+    let ran = c.load_at_once.ensures.ask c.in-Ask.is in
+    let p = put_ask (run code ran.0 m) steps.Asks c.load_at_once.new.asked f refl ran.1 in
+    (p.0, p.1, c.steps.invariant.goes_on p.0 f (ran_to_ask code ran.0 m p.0 f p.2))
+
 pub operate_on-requires-clause-sound : goal.operate_on-requires-clause-sound
 operate_on-requires-clause-sound c =
     let code = c.args.parts.now in
@@ -105,10 +169,10 @@ operate_on-requires-clause-sound c =
     let between = with_pushed (a_value.Int n) m in
     let d : ComesToAsk code between = defined_on code m between c.following.ensures.pushes c.steps.invariant.defined in
     let e : step code between ≡ operate c.in-Some.operation between between.top.stack = ap (λ o. act code o between) c.following.ensures.instruction ∙ c.in-Some.ensures.1 code between in
-    λ b. not_bad code between d (e ∙ b)
+    subst (λ (x : Frames). operate c.in-Some.operation (with_pushed (a_value.Int n) (machine_of x)) (a_value.Int n ∷ (machine_of x).top.stack) ≢ Bad) (sym (c.stores_at_once.ensures.no c.if-stores_at_once.false)) (λ b. not_bad code between d (e ∙ b))
 
 pub next-instruction-requires-in-Some-clause-here : goal.next-instruction-requires-in-Some-clause-here
-next-instruction-requires-in-Some-clause-here c = ap (instructions_in c.args.parts.now) c.operate_on.ensures.block ∙ c.steps.invariant.here
+next-instruction-requires-in-Some-clause-here c = ap (instructions_in c.args.parts.now) (c.operate_on.ensures.block ∙ c.stores_at_once.ensures.block) ∙ c.steps.invariant.here
 
 pub next-instruction-requires-in-Some-clause-sound : goal.next-instruction-requires-in-Some-clause-sound
 next-instruction-requires-in-Some-clause-sound c =
@@ -117,8 +181,10 @@ next-instruction-requires-in-Some-clause-sound c =
     let n = to_z w32 (of_z w32 c.in-Int.number) in
     let between = with_pushed (a_value.Int n) m in
     let d : ComesToAsk code between = defined_on code m between c.following.ensures.pushes c.steps.invariant.defined in
+    let same = c.stores_at_once.ensures.no c.if-stores_at_once.false in
+    let goes = subst (λ (x : Frames). operate c.in-Some.operation (with_pushed (a_value.Int n) (machine_of x)) (a_value.Int n ∷ (machine_of x).top.stack) ≡ Goes (machine_of c.operate_on.new.frames)) same c.operate_on.ensures.goes in
     let e : step code between ≡ operate c.in-Some.operation between between.top.stack = ap (λ o. act code o between) c.following.ensures.instruction ∙ c.in-Some.ensures.1 code between in
-    let g : step code between ≡ Goes (machine_of c.operate_on.new.frames) = e ∙ c.operate_on.ensures.goes in
+    let g : step code between ≡ Goes (machine_of c.operate_on.new.frames) = e ∙ goes in
     defined_on code between (machine_of c.operate_on.new.frames) g d
 
 pub steps-smaller-in-Some : goal.steps-smaller-in-Some
@@ -128,11 +194,13 @@ steps-smaller-in-Some c =
     let n = to_z w32 (of_z w32 c.in-Int.number) in
     let between = with_pushed (a_value.Int n) m in
     let d : ComesToAsk code between = defined_on code m between c.following.ensures.pushes c.steps.invariant.defined in
+    let same = c.stores_at_once.ensures.no c.if-stores_at_once.false in
+    let goes = subst (λ (x : Frames). operate c.in-Some.operation (with_pushed (a_value.Int n) (machine_of x)) (a_value.Int n ∷ (machine_of x).top.stack) ≡ Goes (machine_of c.operate_on.new.frames)) same c.operate_on.ensures.goes in
     let e : step code between ≡ operate c.in-Some.operation between between.top.stack = ap (λ o. act code o between) c.following.ensures.instruction ∙ c.in-Some.ensures.1 code between in
-    let g : step code between ≡ Goes (machine_of c.operate_on.new.frames) = e ∙ c.operate_on.ensures.goes in
+    let g : step code between ≡ Goes (machine_of c.operate_on.new.frames) = e ∙ goes in
     let forward = valid_forward code c.requires.valid in
     let first : weight code between < weight code m = lighter code m between c.steps.instruction.now forward c.steps.invariant.fetched (ap (λ o. act code o m) (sym c.steps.invariant.fetched) ∙ c.following.ensures.pushes) in
-    let second : weight code (machine_of c.operate_on.new.frames) < weight code between = lighter code between (machine_of c.operate_on.new.frames) c.following.result.now forward c.following.ensures.instruction (c.in-Some.ensures.1 code between ∙ c.operate_on.ensures.goes) in
+    let second : weight code (machine_of c.operate_on.new.frames) < weight code between = lighter code between (machine_of c.operate_on.new.frames) c.following.result.now forward c.following.ensures.instruction (c.in-Some.ensures.1 code between ∙ goes) in
     let both : weight code (machine_of c.operate_on.new.frames) < weight code m = omega (arith, first, second) in both
 
 pub steps-preserved-in-Some : goal.steps-preserved-in-Some
@@ -142,42 +210,25 @@ steps-preserved-in-Some c =
     let n = to_z w32 (of_z w32 c.in-Int.number) in
     let between = with_pushed (a_value.Int n) m in
     let d : ComesToAsk code between = defined_on code m between c.following.ensures.pushes c.steps.invariant.defined in
+    let same = c.stores_at_once.ensures.no c.if-stores_at_once.false in
+    let goes = subst (λ (x : Frames). operate c.in-Some.operation (with_pushed (a_value.Int n) (machine_of x)) (a_value.Int n ∷ (machine_of x).top.stack) ≡ Goes (machine_of c.operate_on.new.frames)) same c.operate_on.ensures.goes in
     let e : step code between ≡ operate c.in-Some.operation between between.top.stack = ap (λ o. act code o between) c.following.ensures.instruction ∙ c.in-Some.ensures.1 code between in
-    let g : step code between ≡ Goes (machine_of c.operate_on.new.frames) = e ∙ c.operate_on.ensures.goes in
+    let g : step code between ≡ Goes (machine_of c.operate_on.new.frames) = e ∙ goes in
     record {
       fetched = c.next-instruction-in-Some.ensures.instruction;
-      here = ap (instructions_in code) c.operate_on.ensures.block ∙ c.steps.invariant.here;
+      here = ap (instructions_in code) (c.operate_on.ensures.block ∙ c.stores_at_once.ensures.block) ∙ c.steps.invariant.here;
       within = c.next-instruction-in-Some.ensures.within;
       fits = c.next-instruction-in-Some.ensures.fits;
       defined = defined_on code between (machine_of c.operate_on.new.frames) g d;
       goes_on = λ a f h. c.steps.invariant.goes_on a f (advanced_on code m between a f c.following.ensures.pushes (advanced_on code between (machine_of c.operate_on.new.frames) a f g h));
     }
 
-pub asks_at_once-requires-clause-sound : goal.asks_at_once-requires-clause-sound
-asks_at_once-requires-clause-sound c =
-    let code = c.args.parts.now in
-    let m = machine_of c.steps.frames in
-    let here : fetch code m.top.block m.top.place ≡ Some (instr.Load c.in-Load.slot) = c.steps.invariant.fetched ∙ ap Some c.in-Load.is in
-    (code, λ v e b. not_bad code (with_pushed v m) (defined_on code m (with_pushed v m) (value_pushed code m c.in-Load.slot v here e) c.steps.invariant.defined) (ap (λ o. act code o (with_pushed v m)) c.behind_load-behind.ensures.instruction ∙ b))
-
-pub returns-then-asks_at_once : goal.returns-then-asks_at_once
-returns-then-asks_at_once c =
-    let code = c.args.parts.now in
-    let m = machine_of c.steps.frames in
-    let f = c.asks_at_once.new.frames in
-    let here : fetch code m.top.block m.top.place ≡ Some (instr.Load c.in-Load.slot) = c.steps.invariant.fetched ∙ ap Some c.in-Load.is in
-    let v = c.asks_at_once.ensures.yes c.if-asks_at_once.true code in
-    let between = with_pushed v.0 m in
-    let p = put_ask (act code (Some c.behind_load-behind.result.now) between) steps.Asks c.asks_at_once.new.asked f refl v.2 in
-    let s = subst (λ d. SteppedTo d (Some p.0) f) (sym (ap (λ o. act code o between) c.behind_load-behind.ensures.instruction)) p.2 in
-    (p.0, p.1, c.steps.invariant.goes_on p.0 f (advanced_on code m between p.0 f (value_pushed code m c.in-Load.slot v.0 here v.1) (stepped_advanced code between p.0 f s)))
-
 pub next-instruction-requires-in-Load-clause-sound : goal.next-instruction-requires-in-Load-clause-sound
 next-instruction-requires-in-Load-clause-sound c =
     let code = c.args.parts.now in
     let m = machine_of c.steps.frames in
     let n = machine_of c.load.new.frames in
-    let l = subst (λ (x : Frames). loads (machine_of x) (slice_get x.top.slots.items c.in-Load.slot) ≡ Goes n) (c.asks_at_once.ensures.no c.if-asks_at_once.false) c.in_ok-load.ensures in
+    let l = subst (λ (x : Frames). loads (machine_of x) (slice_get x.top.slots.items c.in-Load.slot) ≡ Goes n) (c.load_at_once.ensures.nothing c.in-Nothing.is) c.in_ok-load.ensures in
     let e : step code m ≡ Goes n = ap (λ o. act code o m) (c.steps.invariant.fetched ∙ ap Some c.in-Load.is) ∙ l in
     defined_on code m n e c.steps.invariant.defined
 
@@ -186,7 +237,7 @@ steps-smaller-in-Load c =
     let code = c.args.parts.now in
     let m = machine_of c.steps.frames in
     let n = machine_of c.load.new.frames in
-    let l = subst (λ (x : Frames). loads (machine_of x) (slice_get x.top.slots.items c.in-Load.slot) ≡ Goes n) (c.asks_at_once.ensures.no c.if-asks_at_once.false) c.in_ok-load.ensures in
+    let l = subst (λ (x : Frames). loads (machine_of x) (slice_get x.top.slots.items c.in-Load.slot) ≡ Goes n) (c.load_at_once.ensures.nothing c.in-Nothing.is) c.in_ok-load.ensures in
     lighter code m n (instr.Load c.in-Load.slot) (valid_forward code c.requires.valid) (c.steps.invariant.fetched ∙ ap Some c.in-Load.is) l
 
 pub steps-preserved-in-Load : goal.steps-preserved-in-Load
@@ -194,7 +245,7 @@ steps-preserved-in-Load c =
     let code = c.args.parts.now in
     let m = machine_of c.steps.frames in
     let n = machine_of c.load.new.frames in
-    let l = subst (λ (x : Frames). loads (machine_of x) (slice_get x.top.slots.items c.in-Load.slot) ≡ Goes n) (c.asks_at_once.ensures.no c.if-asks_at_once.false) c.in_ok-load.ensures in
+    let l = subst (λ (x : Frames). loads (machine_of x) (slice_get x.top.slots.items c.in-Load.slot) ≡ Goes n) (c.load_at_once.ensures.nothing c.in-Nothing.is) c.in_ok-load.ensures in
     let e : step code m ≡ Goes n = ap (λ o. act code o m) (c.steps.invariant.fetched ∙ ap Some c.in-Load.is) ∙ l in
     record {
       fetched = c.next-instruction-in-Load.ensures.instruction;
