@@ -101,8 +101,8 @@ pub first_of : (code : Parts) (n : ℕ) (m m' : Machine) (d : Did) → step code
 first_of code n m m' d e r = ap (goes_on (run code n)) e ∙ r
 
 -- one instruction
-pub one_of : (code : Parts) (m : Machine) → run code 1 m ≡ step code m
-one_of code m = nothing_behind (step code m)
+pub ran_once : (code : Parts) (m : Machine) → run code 1 m ≡ step code m
+ran_once code m = nothing_behind (step code m)
   where
     nothing_behind : (d : Did) → goes_on (run code 0) d ≡ d
     nothing_behind (Goes k) = refl

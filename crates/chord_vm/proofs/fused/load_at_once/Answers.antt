@@ -1,7 +1,7 @@
 use Rattle.std.proofs.Common.{◌≡◌, Some, ap, ◌∙◌, sym, subst}
 use Rattle.chord_code.specs.Machine.{act, loads, run}
 use Rattle.chord_vm.specs.Frames.{machine_of, with_pushed, SteppedTo}
-use Rattle.chord_vm.proofs.Advance.{not_bad, defined_on, value_pushed, first_of, one_of}
+use Rattle.chord_vm.proofs.Advance.{not_bad, defined_on, value_pushed, first_of, ran_once}
 use Rattle.chord_vm.proofs.fused.load_at_once.Goals as goal
 
 pub asks_at_once-requires-clause-there : goal.asks_at_once-requires-clause-there
@@ -26,6 +26,6 @@ returns-then-asks_at_once-clause-ask c = λ is.
     let v = c.asks_at_once.ensures.yes c.if-asks_at_once.true code in
     let loaded = with_pushed v.0 m in
     let d = act code (Some c.args.behind.now) loaded in
-    let one : run code 1 loaded ≡ d = one_of code loaded ∙ ap (λ o. act code o loaded) c.requires.behind in
+    let one : run code 1 loaded ≡ d = ran_once code loaded ∙ ap (λ o. act code o loaded) c.requires.behind in
     let both : run code 2 m ≡ d = first_of code 1 m loaded d (value_pushed code m c.args.slot v.0 c.requires.load v.1) one in
     (2, subst (λ x. SteppedTo x c.asks_at_once.new.asked f) (sym both) v.2)
