@@ -4,7 +4,7 @@ ghost use Rattle.chord_roll.specs.Cards.{counts, last_read, stops, HasReadNothin
 ghost use Rattle.chord_pool.specs.declared.player.Player.{Player as ThePlayer};
 ghost use Rattle.chord_space.specs.Desks.{view};
 ghost use Rattle.chord_task.specs.declared.task.Task.{Task as TheTask};
-ghost use Rattle.chord_worker.specs.Resting.{IsSameRole};
+ghost use Rattle.chord_worker.specs.Resting.{IsSameRole, LastSawReady};
 ghost use Rattle.chord_worker.specs.Stepping.{DrewAStep, HasGoneOn, PlaysBody, PlaysNext, PlaysFiring, StillPlays};
 ghost use Rattle.chord_pool.specs.Players.{IsOneRun, IsFit, AreUnready, FoundNoneBelow, FoundNone, SawUnready, LookedAmong, LookedOnce, LookedThrough, KnowsCount, HasStarted, StandsStill, BeginsLook, HasLooked, HadARound, HadRounds, IsBetweenRounds, HasLeftOff, MayPlay, HasPlayed, PlaysOn, IsOnTheWay, CountsIfItPlays, TellsIfItFails};
 
@@ -40,8 +40,8 @@ const FAR_LOOK: u32 = 32;
 /// How many rounds a worker plays in a spell, which is one turn of the loop without end.
 const ROUNDS: u32 = 64;
 
-/// Starts the firing of number i where it is ready still, by a worker that counts among those at work: so nobody finds neither the firing
-/// nor anybody at work. Whether it plays it now.
+/// Starts the firing of number i, which the worker last saw ready, where it is ready still, by a worker that counts among those at work:
+/// so nobody finds neither the firing nor anybody at work. Whether it plays it now.
 fn start_at_work<'a, G: Gate>(
     run: &Run<'a>,
     worker: &mut Worker,
@@ -53,6 +53,7 @@ fn start_at_work<'a, G: Gate>(
     requires worker { IsFit run.now.space.now worker.old }
     requires idle { worker.old.task ≡ None }
     requires bounds { i < run.now.space.now.events }
+    requires ready { LastSawReady (view worker.old.desk) i }
     requires counts { counts card.now ≡ true }
     ensures worker { IsFit run.now.space.now worker.new }
     ensures role { IsSameRole (view worker.old.desk) (view worker.new.desk) }

@@ -1,5 +1,6 @@
 -- What a worker draws in a step: an ask of the body on top, the end of this body, and a firing.
-use Rattle.std.proofs.Common.{◌≡◌, ℕ, true, List, ◌∷◌, Some, refl, sym, ap, ◌∙◌, subst, ◌⊎◌, inr}
+use Rattle.std.specs.Prelude.{IfNone, IfSome}
+use Rattle.std.proofs.Common.{◌≡◌, ℕ, true, false, List, ◌∷◌, Option, Some, None, refl, sym, ap, ◌∙◌, subst, ◌⊎◌, inr}
 use Rattle.chord_base.specs.declared.event.Entry.{Entry}
 use Rattle.chord_base.specs.declared.event.Limits.{Limits}
 use Rattle.chord_base.specs.declared.event.What.{What}
@@ -10,13 +11,19 @@ use Rattle.chord_code.specs.declared.parts.Parts.{Parts}
 use Rattle.chord_match.specs.Fires.{firing_entry, IsFired}
 use Rattle.chord_rule.specs.declared.view.View.{View}
 use Rattle.chord_rule.specs.Kinds.{entry}
+use Rattle.chord_space.specs.declared.space.Space.{Space}
+use Rattle.chord_space.specs.Desks.{space_code, space_limits}
 use Rattle.chord_task.specs.declared.parcel.Opened.{Opened as Parcel}
 use Rattle.chord_task.specs.declared.task.Task.{Task}
 use Rattle.chord_task.specs.Parcels.{entries_of, arguments_of}
 use Rattle.chord_task.specs.Stacks.{TaskView}
 use Rattle.chord_task.specs.Standing.{view_of}
-use Rattle.chord_worker.specs.Playing.{IsNotedAs}
+use Rattle.chord_task.specs.Turning.{HasCome}
+use Rattle.chord_vm.specs.declared.ask.Ask.{Ask}
+use Rattle.chord_vm.specs.Frames.{what_of_ask}
+use Rattle.chord_worker.specs.Playing.{IsNotedAs, IsNotedFrom, HeardOfLimit}
 use Rattle.chord_worker.specs.Stepping.{DrewFiring, DrewEnd, DrewAStep}
+use Rattle.chord_worker.proofs.Given.{value_of_some, where_none}
 
 -- a firing was drawn
 pub fired_drew : (keeps : Parcel → Type 0) (p : Program) (n : ℕ) (v w : View) (o : Object) (chord : ℕ) (ms : List ℕ) (f : ℕ) (qs : List Parcel) → IsFired entries_of arguments_of keeps p n v w o chord ms f qs → DrewFiring v.draws w.draws
@@ -32,7 +39,7 @@ module _ (code : Parts) (limits : Limits) (v u : View) (t t' : Task) (n : ℕ) (
   noted_draws = ap (λ (z : View). z.draws) noted.drawn
 
   -- the ask of the body on top was drawn, and what follows from it
-  pub ask_drew : (task : Task) → view_of task ≡ view_of t → (es now : List Entry) → es ≡ u.draws → DrewEnd noted.body es now → DrewAStep task v.draws now
+  ask_drew : (task : Task) → view_of task ≡ view_of t → (es now : List Entry) → es ≡ u.draws → DrewEnd noted.body es now → DrewAStep task v.draws now
   ask_drew task same es now is drew = inr (
     entry n noted.body what,
     ap (λ (x : TaskView). x.top) same ∙ noted.on_top,
@@ -40,11 +47,29 @@ module _ (code : Parts) (limits : Limits) (v u : View) (t t' : Task) (n : ℕ) (
   )
 
   -- the end of the body on top was drawn, and what follows from the message before it
-  pub end_drew : (b : ℕ) → (view_of t).top ≡ Some b → is_end what ≡ true → (now : List Entry) → DrewFiring u.draws now → DrewEnd b v.draws now
+  end_drew : (b : ℕ) → (view_of t).top ≡ Some b → is_end what ≡ true → (now : List Entry) → DrewFiring u.draws now → DrewEnd b v.draws now
   end_drew b top ends now drew =
       let same : Some noted.body ≡ Some b = sym noted.on_top ∙ top in
       let k : noted.body ≡ b = cc in
       inr (entry n noted.body what, k, ends, subst (λ (ds : List Entry). DrewFiring ds now) noted_draws drew)
+
+-- the ask with which a task came became an entry, if a number is there
+module _ (s : Space Parcel) (v u : View) (asked : Option Ask) (task task' : Task) (number : Option ℕ) (n : ℕ) (is : number ≡ Some n) (each : IfSome number (IsNotedFrom s v u asked task task')) (a : Ask) (t : Task) (there : asked ≡ Some a) (came : HasCome (space_code s) (space_limits s) t task (what_of_ask a)) where
+  -- what the entry is
+  pub was_noted : IsNotedAs (space_code s) (space_limits s) v u t task' n (what_of_ask a)
+  was_noted = value_of_some number n (IsNotedFrom s v u asked task task') is each a t there came
+
+  -- it was drawn, and what follows from it
+  pub step_drew : (es now : List Entry) → es ≡ u.draws → ((b : ℕ) → (is_end (what_of_ask a) ≡ false → (view_of task').top ≡ Some b) → DrewEnd b es now) → DrewAStep task v.draws now
+  step_drew es now same drew = ask_drew (space_code s) (space_limits s) v u t task' n (what_of_ask a) was_noted task came.view es now same (drew was_noted.body was_noted.top)
+
+  -- it was the end of the body on top, and what follows from the message before it
+  pub last_drew : (b : ℕ) → (view_of t).top ≡ Some b → is_end (what_of_ask a) ≡ true → (now : List Entry) → DrewFiring u.draws now → DrewEnd b v.draws now
+  last_drew = end_drew (space_code s) (space_limits s) v u t task' n (what_of_ask a) was_noted
+
+-- where no number is there, since the limit is reached, nothing was drawn
+pub none_drew : (v u : View) (number : Option ℕ) → number ≡ None → IfNone number (HeardOfLimit v u) → (now : List Entry) → now ≡ u.draws → now ≡ v.draws
+none_drew v u number none told now same = same ∙ ap (λ (z : View). z.draws) (where_none number (HeardOfLimit v u) none told).1
 
 -- so it is in a step of a task that is seen alike
 pub drew_alike : (before now : List Entry) (t t' : Task) → view_of t' ≡ view_of t → DrewAStep t' before now → DrewAStep t before now

@@ -9,11 +9,13 @@ use Rattle.chord_code.specs.Meaning.{code_program}
 use Rattle.chord_rule.specs.declared.view.View.{View}
 use Rattle.chord_rule.specs.Closing.{AreQuiet}
 use Rattle.chord_rule.specs.Kinds.{left_by, MayGo}
+use Rattle.chord_rule.specs.Ways.{LastSeen}
 use Rattle.chord_space.specs.declared.space.Space.{Space}
 use Rattle.chord_space.specs.Desks.{view, space_code, space_limits, IsDeskOf}
 use Rattle.chord_task.specs.declared.parcel.Opened.{Opened as Parcel}
 use Rattle.chord_task.specs.declared.task.Task.{Task}
 use Rattle.chord_task.specs.Standing.{view_of, IsTaskOf, IsResumable, is_ready_of}
+use Rattle.chord_word.specs.declared.cells.Cell.TheVariants.{Ready}
 use Rattle.chord_word.specs.declared.cells.Word.{Word}
 use Rattle.chord_worker.specs.declared.worker.Worker.{Worker}
 
@@ -100,3 +102,9 @@ pub record IsSeen (v w : View) (i : ℕ) (x : Word) : Type 0 where
   pub draws : w.draws ≡ v.draws
   pub count : w.looked.count ≡ v.looked.count
   pub seen : w.looked.seen ≡ record { number = i; word = x } ∷ v.looked.seen
+
+-- what the desk last read or wrote in the cell i is that a firing is ready
+pub record LastSawReady (v : View) (i : ℕ) : Type 0 where
+  pub word : Word
+  pub last : LastSeen i word v.looked.seen
+  pub ready : word.cell ≡ Ready

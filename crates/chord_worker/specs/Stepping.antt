@@ -76,6 +76,6 @@ DrewFiring before now = (now ≡ before) ⊎ ((f : Entry) × (now ≡ f ∷ befo
 abbrev pub DrewEnd : ℕ → List Entry → List Entry → Type 0
 DrewEnd b before now = DrewFiring before now ⊎ ((e : Entry) × (e.body ≡ b) × (is_end e.what ≡ true) × DrewFiring (e ∷ before) now)
 
--- in a step of the task its desk, which had drawn these entries, drew at most two of the body on top, the second of which is its end, and then at most one firing, and nothing of any other body
+-- in a step of the task its desk, which had drawn these entries, drew nothing, or an entry of the body on top, then at most the end of this body, then at most one firing, and nothing else
 abbrev pub DrewAStep : Task → List Entry → List Entry → Type 0
 DrewAStep t before now = (now ≡ before) ⊎ ((e : Entry) × ((view_of t).top ≡ Some e.body) × DrewEnd e.body (e ∷ before) now)

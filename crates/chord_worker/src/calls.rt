@@ -10,7 +10,7 @@ ghost use Rattle.chord_word.specs.declared.cells.Cell.{Cell as TheCell};
 ghost use Rattle.chord_word.specs.declared.cells.Cell.TheVariants.{Ready, Started};
 ghost use Rattle.chord_space.specs.Desks.{view, space_code, space_limits, program_of, IsDeskOf};
 ghost use Rattle.chord_word.specs.declared.cells.Word.{Word};
-ghost use Rattle.chord_worker.specs.Resting.{IsAtRest, IsSameRole, IsSeen};
+ghost use Rattle.chord_worker.specs.Resting.{IsAtRest, IsSameRole, IsSeen, LastSawReady};
 ghost use Rattle.chord_worker.specs.Stepping.{PlaysFiring, PlaysMain};
 
 use crate::worker::{Gate, Worker};
@@ -136,12 +136,14 @@ impl Worker {
         requires bounds { i < space.now.events }
         ensures rest { IsAtRest space.now self.new × (self.new.task ≡ None) }
         ensures seen { (x : Word) × (result ≡ x.cell) × IsSeen (view self.old.desk) (view self.new.desk) i x }
+        ensures ready { result ≡ Ready → LastSawReady (view self.new.desk) i }
     {
         space.look_cell(&mut self.desk, i).cell
     }
 
-    /// Starts the firing of this number, whose body the worker then plays, if it is ready. Whether it was; if not, the worker saw what its
-    /// cell said, and nothing else has changed. In both cases it looks at this cell alone, once, and draws nothing.
+    /// Starts the firing of this number, which the worker last saw ready, and plays its body then, if it is ready still. Whether it was;
+    /// if not, the worker saw what its cell said, and nothing else has changed. In both cases it looks at this cell alone, once, and
+    /// draws nothing.
     pub fn start<G: Gate>(
         &mut self,
         space: &Space<Parcel>,
@@ -156,6 +158,7 @@ impl Worker {
         requires task { self.old.task ≡ None }
         requires room { (view self.old.desk).spent ≡ false }
         requires bounds { i < space.now.events }
+        requires ready { LastSawReady (view self.old.desk) i }
         ensures rest { IsAtRest space.now self.new × IsSameRole (view self.old.desk) (view self.new.desk) }
         ensures room { (view self.new.desk).spent ≡ false }
         ensures task { result ≡ is_some self.new.task }

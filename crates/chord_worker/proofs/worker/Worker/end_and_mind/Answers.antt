@@ -20,7 +20,7 @@ use Rattle.chord_worker.specs.Playing.{DrawsOne, HeardOfLimit, IsNotedFrom}
 use Rattle.chord_worker.specs.Resting.{IsAtRest, IsSameRole}
 use Rattle.chord_worker.specs.Stepping.{DrewEnd, WasMinded}
 use Rattle.chord_worker.proofs.Attending.{role_on}
-use Rattle.chord_worker.proofs.Drawn.{end_drew}
+use Rattle.chord_worker.proofs.Drawn.{last_drew, none_drew}
 use Rattle.chord_worker.proofs.Ended.{ended_minds, ended_told, rest_stocked, stays_stocked}
 use Rattle.chord_worker.proofs.Given.{value_of_some, where_none}
 use Rattle.chord_worker.proofs.Resting.{role_noted, role_told}
@@ -118,26 +118,18 @@ returns-in-None-clause-stocked g c = λ e.
 
 pub returns-in_ok-mind-in-Some-clause-drew : goal.returns-in_ok-mind-in-Some-clause-drew
 returns-in_ok-mind-in-Some-clause-drew g c = λ b top.
-    let s = c.args.space.now in
-    let w = c.args.self.now in
-    let n = c.in-Some.field-0 in
-    let noted = value_of_some _ n (IsNotedFrom s (view w.desk) (view c.draw_own.new.desk) c.replace.new.dest c.args.task c.draw_own.new.task) c.in-Some.is c.in_ok-draw_own.ensures.noted (ask.End (Gives a_value.Unit)) c.args.task c.replace.ensures.after c.requires.came in
-    subst (λ (d : Desk Parcel). DrewEnd b (view w.desk).draws (view d).draws) (sym c.retire.ensures.same.0)
-    (end_drew (space_code s) (space_limits s) (view w.desk) (view c.draw_own.new.desk) c.args.task c.draw_own.new.task n (Ended (Gives a_value.Unit)) noted b top refl (view c.mind.new.self.desk).draws c.mind.ensures.drew)
+    subst (λ (d : Desk Parcel). DrewEnd b (view c.args.self.now.desk).draws (view d).draws) (sym c.retire.ensures.same.0)
+    (last_drew c.args.space.now (view c.args.self.now.desk) (view c.draw_own.new.desk) c.replace.new.dest c.args.task c.draw_own.new.task _ c.in-Some.field-0 c.in-Some.is c.in_ok-draw_own.ensures.noted (ask.End (Gives a_value.Unit)) c.args.task c.replace.ensures.after c.requires.came
+    b top refl (view c.mind.new.self.desk).draws c.mind.ensures.drew)
 
 pub returns-in_err-mind-in-Some-clause-drew : goal.returns-in_err-mind-in-Some-clause-drew
 returns-in_err-mind-in-Some-clause-drew g c = λ b top.
-    let s = c.args.space.now in
-    let w = c.args.self.now in
-    let n = c.in-Some.field-0 in
-    let noted = value_of_some _ n (IsNotedFrom s (view w.desk) (view c.draw_own.new.desk) c.replace.new.dest c.args.task c.draw_own.new.task) c.in-Some.is c.in_ok-draw_own.ensures.noted (ask.End (Gives a_value.Unit)) c.args.task c.replace.ensures.after c.requires.came in
-    end_drew (space_code s) (space_limits s) (view w.desk) (view c.draw_own.new.desk) c.args.task c.draw_own.new.task n (Ended (Gives a_value.Unit)) noted b top refl (view c.mind.new.self.desk).draws c.mind.ensures.drew
+    last_drew c.args.space.now (view c.args.self.now.desk) (view c.draw_own.new.desk) c.replace.new.dest c.args.task c.draw_own.new.task _ c.in-Some.field-0 c.in-Some.is c.in_ok-draw_own.ensures.noted (ask.End (Gives a_value.Unit)) c.args.task c.replace.ensures.after c.requires.came
+    b top refl (view c.mind.new.self.desk).draws c.mind.ensures.drew
 
 pub returns-in-None-clause-drew : goal.returns-in-None-clause-drew
 returns-in-None-clause-drew g c = λ b top.
-    let w = c.args.self.now in
-    let told = where_none _ (HeardOfLimit (view w.desk) (view c.draw_own.new.desk)) c.in-None.is c.in_ok-draw_own.ensures.told in
-    inl (inl (ap (λ (x : Desk Parcel). (view x).draws) c.lay_down.ensures.same.0 ∙ ap (λ (z : View). z.draws) told.1))
+    inl (inl (none_drew (view c.args.self.now.desk) (view c.draw_own.new.desk) _ c.in-None.is c.in_ok-draw_own.ensures.told (view c.lay_down.new.self.desk).draws (ap (λ (x : Desk Parcel). (view x).draws) c.lay_down.ensures.same.0)))
 
 pub returns-in_err-draw_own-clause-drew : goal.returns-in_err-draw_own-clause-drew
 returns-in_err-draw_own-clause-drew g c = λ b top. inl (inl (ap (λ (z : View). z.draws) c.in_err-draw_own.ensures.undrawn.0))

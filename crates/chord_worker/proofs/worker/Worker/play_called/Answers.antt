@@ -18,7 +18,7 @@ use Rattle.chord_worker.proofs.Given.{only_ask, value_of_some, where_none}
 use Rattle.chord_worker.specs.Resting.{IsInMemory, MayContinue}
 use Rattle.chord_worker.proofs.Resting.{rest_told}
 use Rattle.chord_worker.proofs.Attending.{role_on}
-use Rattle.chord_worker.proofs.Drawn.{ask_drew}
+use Rattle.chord_worker.proofs.Drawn.{step_drew, none_drew}
 use Rattle.chord_worker.proofs.Sent.{task_may, task_left, task_memory, now_minds, minds_role}
 use Rattle.chord_worker.proofs.Stepping.{went_called, plays_minded, gone_on, plays_next}
 use Rattle.chord_worker.specs.Stepping.{PlaysNoOther, WasMinded}
@@ -124,25 +124,17 @@ returns-in_ok-mind-in-Some-clause-role g c =
 
 pub returns-in_ok-mind-in-Some-clause-drew : goal.returns-in_ok-mind-in-Some-clause-drew
 returns-in_ok-mind-in-Some-clause-drew g c =
-    let noted = (value_of_some _ c.in-Some.number (IsNotedFrom c.args.space.now (view c.args.self.now.desk) (view c.draw_own.new.desk) c.args.asked.now c.args.task c.draw_own.new.task) c.in-Some.is c.in_ok-number.ensures.noted (ask.Call c.args.object c.args.method c.args.held.first) c.requires.came.0 c.requires.asked c.requires.came.1) in
-    let s = c.args.space.now in
-    let w = c.args.self.now in
-    ask_drew (space_code s) (space_limits s) (view w.desk) (view c.draw_own.new.desk) c.requires.came.0 c.draw_own.new.task c.in-Some.number (Called c.args.object c.args.method c.args.held.first) noted c.args.task c.requires.came.1.view (view c.send_task.new.desk).draws (view c.mind.new.self.desk).draws
-    c.send_task.ensures.sent.draws (inl c.mind.ensures.drew)
+    step_drew c.args.space.now (view c.args.self.now.desk) (view c.draw_own.new.desk) c.args.asked.now c.args.task c.draw_own.new.task _ c.in-Some.number c.in-Some.is c.in_ok-number.ensures.noted (ask.Call c.args.object c.args.method c.args.held.first) c.requires.came.0 c.requires.asked c.requires.came.1
+    (view c.send_task.new.desk).draws (view c.mind.new.self.desk).draws c.send_task.ensures.sent.draws (λ b top. inl c.mind.ensures.drew)
 
 pub returns-in_err-mind-in-Some-clause-drew : goal.returns-in_err-mind-in-Some-clause-drew
 returns-in_err-mind-in-Some-clause-drew g c =
-    let noted = (value_of_some _ c.in-Some.number (IsNotedFrom c.args.space.now (view c.args.self.now.desk) (view c.draw_own.new.desk) c.args.asked.now c.args.task c.draw_own.new.task) c.in-Some.is c.in_ok-number.ensures.noted (ask.Call c.args.object c.args.method c.args.held.first) c.requires.came.0 c.requires.asked c.requires.came.1) in
-    let s = c.args.space.now in
-    let w = c.args.self.now in
-    ask_drew (space_code s) (space_limits s) (view w.desk) (view c.draw_own.new.desk) c.requires.came.0 c.draw_own.new.task c.in-Some.number (Called c.args.object c.args.method c.args.held.first) noted c.args.task c.requires.came.1.view (view c.send_task.new.desk).draws (view c.mind.new.self.desk).draws
-    c.send_task.ensures.sent.draws (inl c.mind.ensures.drew)
+    step_drew c.args.space.now (view c.args.self.now.desk) (view c.draw_own.new.desk) c.args.asked.now c.args.task c.draw_own.new.task _ c.in-Some.number c.in-Some.is c.in_ok-number.ensures.noted (ask.Call c.args.object c.args.method c.args.held.first) c.requires.came.0 c.requires.asked c.requires.came.1
+    (view c.send_task.new.desk).draws (view c.mind.new.self.desk).draws c.send_task.ensures.sent.draws (λ b top. inl c.mind.ensures.drew)
 
 pub returns-in-None-clause-drew : goal.returns-in-None-clause-drew
 returns-in-None-clause-drew g c =
-    let w = c.args.self.now in
-    let told = where_none _ (HeardOfLimit (view w.desk) (view c.draw_own.new.desk)) c.in-None.is c.in_ok-number.ensures.told in
-    inl (ap (λ (x : Desk Parcel). (view x).draws) c.lay_down.ensures.same.0 ∙ ap (λ (z : View). z.draws) told.1)
+    inl (none_drew (view c.args.self.now.desk) (view c.draw_own.new.desk) _ c.in-None.is c.in_ok-number.ensures.told (view c.lay_down.new.self.desk).draws (ap (λ (x : Desk Parcel). (view x).draws) c.lay_down.ensures.same.0))
 
 pub returns-in_err-number-clause-drew : goal.returns-in_err-number-clause-drew
 returns-in_err-number-clause-drew g c = inl (ap (λ (z : View). z.draws) c.in_err-number.ensures.undrawn.0)

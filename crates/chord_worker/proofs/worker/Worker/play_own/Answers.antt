@@ -10,7 +10,7 @@ use Rattle.chord_vm.specs.Frames.{what_of_ask}
 use Rattle.chord_worker.specs.Playing.{DrawsOne, IsNotedAs, IsNotedFrom, HeardOfLimit}
 use Rattle.chord_worker.specs.Resting.{IsInMemory}
 use Rattle.chord_worker.proofs.Given.{some_ask, value_of_some, where_none}
-use Rattle.chord_worker.proofs.Drawn.{ask_drew}
+use Rattle.chord_worker.proofs.Drawn.{step_drew, none_drew}
 use Rattle.chord_worker.proofs.Resting.{rest_noted, role_noted, rest_told, role_told}
 use Rattle.chord_worker.specs.Stepping.{PlaysNoOther}
 use Rattle.chord_worker.proofs.Stepping.{newest_is_kept, no_other, still_no_other}
@@ -115,20 +115,15 @@ returns-in-None-clause-plays c = subst (PlaysNoOther c.args.task) (sym (c.lay_do
 
 pub returns-in-Some-clause-drew : goal.returns-in-Some-clause-drew
 returns-in-Some-clause-drew c =
-    let s = c.args.space.now in
-    let w = c.args.self.now in
     let a = some_ask c.args.asked.now c.requires.some in
     let y = c.requires.came a.0 a.1 in
-    let n = c.in-Some.field-0 in
-    let noted = value_of_some _ n (IsNotedFrom s (view w.desk) (view c.draw_own.new.desk) c.args.asked.now c.args.task c.draw_own.new.task) c.in-Some.is c.in_ok-draw_own.ensures.noted a.0 y.0 a.1 y.1 in
-    ask_drew (space_code s) (space_limits s) (view w.desk) (view c.draw_own.new.desk) y.0 c.draw_own.new.task n (what_of_ask a.0) noted c.args.task y.1.view (view c.settle.new.self.desk).draws (view c.settle.new.self.desk).draws
-    (ap (λ (x : Desk Parcel). (view x).draws) c.settle.ensures.same.0) (inl (inl refl))
+    let draws = (view c.settle.new.self.desk).draws in
+    step_drew c.args.space.now (view c.args.self.now.desk) (view c.draw_own.new.desk) c.args.asked.now c.args.task c.draw_own.new.task _ c.in-Some.field-0 c.in-Some.is c.in_ok-draw_own.ensures.noted a.0 y.0 a.1 y.1
+    draws draws (ap (λ (x : Desk Parcel). (view x).draws) c.settle.ensures.same.0) (λ b top. inl (inl refl))
 
 pub returns-in-None-clause-drew : goal.returns-in-None-clause-drew
 returns-in-None-clause-drew c =
-    let w = c.args.self.now in
-    let told = where_none _ (HeardOfLimit (view w.desk) (view c.draw_own.new.desk)) c.in-None.is c.in_ok-draw_own.ensures.told in
-    inl (ap (λ (x : Desk Parcel). (view x).draws) c.lay_down.ensures.same.0 ∙ ap (λ (z : View). z.draws) told.1)
+    inl (none_drew (view c.args.self.now.desk) (view c.draw_own.new.desk) _ c.in-None.is c.in_ok-draw_own.ensures.told (view c.lay_down.new.self.desk).draws (ap (λ (x : Desk Parcel). (view x).draws) c.lay_down.ensures.same.0))
 
 pub returns-in_err-draw_own-clause-drew : goal.returns-in_err-draw_own-clause-drew
 returns-in_err-draw_own-clause-drew c = inl (ap (λ (z : View). z.draws) c.in_err-draw_own.ensures.undrawn.0)
