@@ -58,7 +58,7 @@ pub record IsFirstOf (c : ℕ) (xs : List ClassStacks) (i : ℕ) : Type 0 where
   pub of_class : stacks.class ≡ c
   pub lacks : LacksBefore c xs i
 
--- stacks of the class came last where there were none, and else there are as many as before
+-- of stacks there are as many as before where some were of the class, and one more where none were
 pub record AddsClass (c : ℕ) (before after : List ClassStacks) : Type 0 where
   pub there : (i : ℕ) → IsFirstOf c before i → length after ≡ length before
   pub first : LacksBefore c before (length before) → length after ≡ length before + 1

@@ -86,7 +86,7 @@ abbrev pub missed_by : View → Missed → Looked → View
 missed_by v (Lost i) l = record v { looked = l }
 missed_by v Spent l = record v { looked = l; spent = true }
 
--- the member i stands at place `at` or behind it, and was gone at the last of these looks at it
+-- the member i, at place `at` or behind it, was gone at the last of these looks at it; by them the members from `at` up to before it were claimed in header order, and given back, the last one first
 pub record IsGoneFrom (n : ℕ) (ms : List ℕ) (at : ℕ) (ls : List Look) (i : ℕ) : Type 0 where
   pub place : ℕ
   pub from : at ≤ place

@@ -38,7 +38,7 @@ abbrev pub all_with : Cell → List ℕ → List (ℕ × Cell)
 all_with c [] = []
 all_with c (i ∷ is) = (i, c) ∷ all_with c is
 
--- by these looks, the newest first, members were claimed in order and each once, up to the first that was not pending, which is i; then they were given back, the last one first
+-- by these looks, the newest first, members were claimed in header order and each once, up to the first that was not pending, which is i; then they were given back, the last one first
 pub record TriedUpTo (ms : List ℕ) (i : ℕ) (looks : List Look) : Type 0 where
   pub place : ℕ
   pub here : slice_get ms place ≡ Some i
@@ -59,7 +59,7 @@ pub record IsLost (n : ℕ) (v w : View) (ms : List ℕ) (xs : List (Option ℕ)
   pub below : i < n
   pub looks : List Look
   pub more : w.looked.seen ≡ looks ++ v.looked.seen
-  -- to give a claim back writes the cell pending, so what was read is no claim of the desk's own
+  -- i was gone at the last look at it, so it is none of the members before it, whose last looks wrote them pending again; `tried` says so only of members that are all different, which follows from the rule and from nothing here
   pub read : WasGone i looks
   -- of what it remembers only these looks at cells are new: the ways, which tell it in what bags the members are, are those before
   pub remembered : w.looked ≡ record v.looked { seen = looks ++ v.looked.seen }
@@ -77,7 +77,7 @@ pub record IsTurnedAway (n : ℕ) (v w : View) (ms : List ℕ) : Type 0 where
   pub looks : List Look
   -- of what it remembers only these looks at cells are new, and the counter
   pub remembered : w.looked ≡ record v.looked { seen = looks ++ v.looked.seen; count = w.looked.count }
-  -- all members were claimed in order and each once, and given back, the last one first
+  -- all members were claimed in header order and each once, and given back, the last one first
   pub in_order : messages_and_cells looks ≡ all_with Pending ms ++ all_with Claimed (reverse ms)
 
 -- why nothing was fired
@@ -140,7 +140,7 @@ pub record IsFired {P : Type 0} (entries : P → List Entry) (arguments : P → 
   -- of what it remembers only these looks at cells are new, and the counter
   pub looks : List Look
   pub remembered : w.looked ≡ record v.looked { seen = looks ++ v.looked.seen; count = Some (f + 1) }
-  -- the members were claimed in order and each once, and then consumed in order and each once
+  -- the members were claimed in header order and each once, and then consumed in header order and each once
   pub in_order : messages_and_cells looks ≡ all_with Consumed (reverse ms) ++ all_with Claimed (reverse ms)
   -- the desk keeps the firing's entry and what the parcels keep; it has no claim, and no duty on a member
   pub view : w ≡ record v { kept = all_together (firing_entry arguments o chord ms f qs ∷ v.kept) (map entries qs); draws = firing_entry arguments o chord ms f qs ∷ v.draws; claims = []; unposted = f ∷ v.unposted; drawn = true; duties = drop_duties ms v.duties; looked = w.looked }

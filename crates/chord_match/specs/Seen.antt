@@ -32,7 +32,7 @@ abbrev pub looks_along : List Way → List Look
 looks_along [] = []
 looks_along (w ∷ ws) = w.looks ++ looks_along ws
 
--- from one view to another bags were sought, none of them twice, and no other cells were looked at
+-- from one view to another bags were sought, none of them twice, and no cell was looked at but on the ways through them
 pub record HasSought (u w : View) : Type 0 where
   pub grows : Grows u w
   pub once : AreDifferent (bags_of grows.ways)

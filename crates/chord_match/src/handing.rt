@@ -75,8 +75,8 @@ fn lay_aside<P: Drop>(hand: Hand<P>)
     mem::forget(hand);
 }
 
-/// Fires the chord with these messages, which the desk saw pending in the bags of its methods: claims them in member order, draws
-/// the firing, and takes their parcels in header order, or claims nothing and fires nothing. Each member is claimed once, and the
+/// Fires the chord with these messages, which the desk saw pending in the bags of its methods: claims them in header order, draws
+/// the firing, and takes their parcels in that order, or claims nothing and fires nothing. Each member is claimed once, and the
 /// first that is not pending is the last one that is tried. Fired: the desk keeps the firing's entry, whose values are those of the
 /// parcels laid together, and what the parcels keep; it has no claim, and its duties on the members are gone. `Lost(i)`: member i
 /// was not pending when the desk last looked at it, which it did in this call; one that it claimed itself was pending then, since

@@ -40,6 +40,7 @@ impl Nexts {
     }
 
     /// Takes all nexts out. Where there are none, nothing is written.
+    #[inline(always)]
     pub fn clear(&mut self)
         ensures { self.new ≡ [] }
     {

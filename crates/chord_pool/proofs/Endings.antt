@@ -159,12 +159,14 @@ stays_alone s v w was settled role = record { settled = settled; first = role.fi
 pub may_close : (s : Space Parcel) (w : Worker) (n c count : ℕ) → IsFit s w → (view w.desk).first ≡ true → (view w.desk).drawn ≡ true → (view w.desk).lent ≡ 0
     → (view w.desk).looked.count ≡ Some c → count ≡ min c n → count ≢ n → AreAwake 0 count (view w.desk).looked.seen → MayClose (view w.desk)
 may_close s w n c count fit first drawn lent counted least below awake = record {
-  first = first;
-  begun = drawn;
-  lent = lent;
-  duties = fit.rest.duties fit.room;
-  claims = fit.rest.free.claims;
-  in_hand = λ i. ⊎_elim (λ h. subst (HasNumber i) fit.rest.free.fresh h) (⊎_elim (λ h. not_some i (sym w.desk.settled.3 ∙ h)) (λ h. not_some i (sym fit.rest.free.flight ∙ h)));
+  idle = record {
+    first = first;
+    begun = drawn;
+    lent = lent;
+    duties = fit.rest.duties fit.room;
+    claims = fit.rest.free.claims;
+    armed = λ i. ⊎_elim (λ h. subst (HasNumber i) fit.rest.free.fresh h) (⊎_elim (λ h. not_some i (sym w.desk.settled.3 ∙ h)) (λ h. not_some i (sym fit.rest.free.flight ∙ h)));
+  };
   count = c;
   counted = counted;
   seen = λ i l. awake i (omega arith) (omega (arith, l, least, below));

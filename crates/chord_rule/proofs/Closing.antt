@@ -1,4 +1,4 @@
--- The closing theorem: where the first desk has nothing in hand, nobody has to look after any cell, and what the desk keeps is quiet, the journal is complete.
+-- The closing theorem: where the first desk has nothing to do, nobody has to look after any cell, and what the desk keeps is quiet, the journal is complete.
 use Rattle.std.proofs.Common.{◌≡◌, ◌⊎◌, inl, inr, ⊎_elim, ℕ, ◌<◌, ◌≤◌, ◌==◌, false, List, [], ◌∷◌, length, refl, sym, ap, ◌∙◌, subst, arith, Option, Some, None}
 use Rattle.std.proofs.lemmas.Bool.{eqb-true}
 use mathlib.Core.Logic.{dite}
@@ -29,7 +29,7 @@ use Rattle.chord_rule.specs.Moment.{Moment, Home}
 use Rattle.chord_rule.specs.Agrees.{Agrees}
 use Rattle.chord_rule.specs.Bags.{IsStanding, IsArmed, cell_of}
 use Rattle.chord_rule.specs.Claims.{HasThe}
-use Rattle.chord_rule.specs.Closing.{IsQuiet, AreQuiet, IsAsleep, AreAllAwake, HasNothingInHand, MayClose}
+use Rattle.chord_rule.specs.Closing.{IsQuiet, AreQuiet, IsAsleep, AreAllAwake, HasNothingToDo, MayClose}
 use Rattle.chord_rule.specs.Duties.{HasDuty, Chosen}
 use Rattle.chord_rule.specs.Hands.{IsUnarmed}
 use Rattle.chord_rule.specs.Keeping.{parcel, at_desk, at_home, kept_at}
@@ -108,7 +108,7 @@ quiet_asks p Unplaced t = absurd t
 quiet_asks p (Ready s k rs) t = absurd t
 
 module _ {P : Type 0} (entries : P → List Entry) (arguments : P → List value.Value) (keeps_to : P → Type 0) (p : Program) (n : ℕ) (any : 0 < n) (small : n ≤ 65536) (m : Moment P) (u : Unseen) (whole : Whole entries arguments keeps_to p n m u)
-    (id : ℕ) (v : View) (at : get_elem? m.views id ≡ some v) (here : v.gone ≡ false) (may : HasNothingInHand v) (awake : AreAllAwake m.cells) where
+    (id : ℕ) (v : View) (at : get_elem? m.views id ≡ some v) (here : v.gone ≡ false) (may : HasNothingToDo v) (awake : AreAllAwake m.cells) where
   -- the first part of the rule holds
   law : Agrees entries arguments keeps_to p n m u
   law = whole.agrees
@@ -133,7 +133,7 @@ module _ {P : Type 0} (entries : P → List Entry) (arguments : P → List value
 
       in_no_hand : (j : ℕ) (w : View) → get_elem? m.views j ≡ some w → IsUnarmed w i → ⊥
       in_no_hand j w there un = ⊎_elim
-          (λ y. may.in_hand i (subst (λ (z : View). IsUnarmed z i) y un))
+          (λ y. may.armed i (subst (λ (z : View). IsUnarmed z i) y un))
           (λ g. let t : IsUnarmed gone i = subst (λ (z : View). IsUnarmed z i) g un in
           ⊎_elim (λ z. z) (λ z. ⊎_elim (λ (s : Path (Option ℕ) None (Some i)). let k = s in cc) (λ (s : Path (Option ℕ) None (Some i)). let k = s in cc) z) t) (who j w there)
 
@@ -205,19 +205,19 @@ module _ {P : Type 0} (entries : P → List Entry) (arguments : P → List value
     (id : ℕ) (v : View) (at : get_elem? m.views id ≡ some v) (here : v.gone ≡ false) (may : MayClose v) where
   -- the desk that closes is desk 0
   at_zero : get_elem? m.views 0 ≡ some v
-  at_zero = ap (get_elem? m.views) (sym (whole.agrees.firsts.leads id v at may.first)) ∙ at
+  at_zero = ap (get_elem? m.views) (sym (whole.agrees.firsts.leads id v at may.idle.first)) ∙ at
 
   -- the counter is what that desk remembers of it
   count_is : m.count ≡ may.count
-  count_is = (whole.alone.alone v at_zero may.lent).counter may.count may.counted
+  count_is = (whole.alone.alone v at_zero may.idle.lent).counter may.count may.counted
 
   -- no cell is woken or ready, since it saw none that is
   none_asleep : AreAllAwake m.cells
   none_asleep i a = dite (dec_lt i may.count)
-      (λ l. let s = may.seen i l in s.2 (subst (λ (x : Word). IsAsleep x.cell) ((whole.alone.alone v at_zero may.lent).cell i s.0 s.1) a))
+      (λ l. let s = may.seen i l in s.2 (subst (λ (x : Word). IsAsleep x.cell) ((whole.alone.alone v at_zero may.idle.lent).cell i s.0 s.1) a))
       (λ far. let e = count_is in
       subst (λ (x : Word). IsAsleep x.cell) (no_entry_blank entries arguments keeps_to p n m u whole.agrees.stands i (what_none i u.journal (past_below p u.journal i whole.agrees.stands.keeping.merged.past (let k = whole.agrees.stands.keeping.long in omega arith)))) a)
 
   -- the journal of the table is complete where the desk knows that nothing is left to do
   pub closing : AreQuiet p v.kept → IsFinal p u.journal
-  closing = closing_awake entries arguments keeps_to p n any small m u whole id v at here (record { first = may.first; begun = may.begun; lent = may.lent; duties = may.duties; claims = may.claims; in_hand = may.in_hand }) none_asleep
+  closing = closing_awake entries arguments keeps_to p n any small m u whole id v at here may.idle none_asleep

@@ -29,27 +29,22 @@ IsAsleep (a_cell.Woken x) = Unit {0}
 IsAsleep a_cell.Ready = Unit {0}
 IsAsleep _ = ⊥
 
--- the desk has nothing in hand: it is the first one, which drew the beginning of `Main`; it has lent none, and has no duty, no claim and no message that is not armed
-pub record HasNothingInHand (v : View) : Type 0 where
+-- the desk has nothing to do: it is the first one, it drew the beginning of `Main`, it has lent no desk, and it has no duty, no claim and no message that is not armed
+pub record HasNothingToDo (v : View) : Type 0 where
   pub first : v.first ≡ true
   pub begun : v.drawn ≡ true
   pub lent : v.lent ≡ 0
   pub duties : v.duties ≡ []
   pub claims : v.claims ≡ []
-  pub in_hand : (i : ℕ) → IsUnarmed v i → ⊥
+  pub armed : (i : ℕ) → IsUnarmed v i → ⊥
 
 -- nobody has still to look after any of these cells: none is woken or ready
 abbrev pub AreAllAwake : (ℕ → Word) → Type 0
 AreAllAwake cells = (i : ℕ) → IsAsleep (cell_of cells i) → ⊥
 
--- the desk knows that nothing is left to do: it has nothing in hand, looked at the counter and at each cell below, and no cell was woken or ready
+-- the desk knows that nothing is left to do: it has nothing to do, looked at the counter and at each cell below, and no cell was woken or ready
 pub record MayClose (v : View) : Type 0 where
-  pub first : v.first ≡ true
-  pub begun : v.drawn ≡ true
-  pub lent : v.lent ≡ 0
-  pub duties : v.duties ≡ []
-  pub claims : v.claims ≡ []
-  pub in_hand : (i : ℕ) → IsUnarmed v i → ⊥
+  pub idle : HasNothingToDo v
   pub count : ℕ
   pub counted : v.looked.count ≡ Some count
   pub seen : (i : ℕ) → i < count → (x : Word) × LastSeen i x v.looked.seen × (IsAsleep x.cell → ⊥)

@@ -12,7 +12,7 @@ use Rattle.chord_code.specs.Meaning.{code_program}
 use Rattle.chord_rule.specs.declared.view.View.{View}
 use Rattle.chord_rule.specs.Moment.{Moment}
 use Rattle.chord_base.specs.Machine.{IsFinal}
-use Rattle.chord_rule.specs.Closing.{HasNothingInHand, AreAllAwake, MayClose, AreQuiet}
+use Rattle.chord_rule.specs.Closing.{HasNothingToDo, AreAllAwake, MayClose, AreQuiet}
 use Rattle.chord_rule.specs.StandsFor.{Unseen}
 use Rattle.chord_rule.specs.Whole.{Whole}
 
@@ -44,8 +44,8 @@ pub record IsSealed {P : Type 0} (entries : P → List Entry) (arguments : P →
   pub drawn_is : drawn ≡ length unseen.journal
   -- that desk drew, or took over from the desks that it took in, each entry of the journal
   pub journal : v.draws ≡ unseen.journal
-  -- where the desk had nothing in hand, no cell is woken or ready, and no body that it kept makes an entry of itself, the journal is complete
-  pub at_rest : HasNothingInHand v → AreAllAwake moment.cells → AreQuiet (code_program code limits) v.kept → IsFinal (code_program code limits) unseen.journal
+  -- where the desk had nothing to do, no cell is woken or ready, and no body that it kept makes an entry of itself, the journal is complete
+  pub at_rest : HasNothingToDo v → AreAllAwake moment.cells → AreQuiet (code_program code limits) v.kept → IsFinal (code_program code limits) unseen.journal
   -- where the desk knew that nothing was left to do, and no body that it kept makes an entry of itself, the journal is complete
   pub complete : MayClose v → AreQuiet (code_program code limits) v.kept → IsFinal (code_program code limits) unseen.journal
   pub homes : (i : ℕ) → i < limits.events → (y : Option P) × (moment.homes i ≡ some y) × (slice_get parcels i ≡ Some y)

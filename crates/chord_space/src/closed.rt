@@ -56,9 +56,9 @@ impl<P: Carry> Space<P> {
     ghost use Rattle.chord_space.specs.Ends.{parcels, closing_view};
 
     /// Closes the table with its first desk, which has lent none, has no claim and nothing in flight. What is closed is the last
-    /// moment of the run under the whole rule. The journal is complete where `Begun` was drawn, the desk has no duty, no cell is woken
-    /// or ready, and each body that it kept has ended or waits. The desk knows that of the cells where it looked at each of them, and
-    /// none was.
+    /// moment of the run under the whole rule. The journal is complete where `Begun` was drawn, the desk has no duty and no message that
+    /// is not armed, no cell is woken or ready, and each body that it kept has ended or waits. The desk knows that of the cells where
+    /// it looked at each of them, and none was.
     pub fn close(self, desk: Desk<P>) -> Closed<P>
         requires desk { IsDeskOf self desk }
         requires alone { ((view desk).first ≡ true) × ((view desk).lent ≡ 0) }

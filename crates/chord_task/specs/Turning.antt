@@ -80,9 +80,15 @@ pub record AwaitsNumber (code : Parts) (before roomy : Task) (n : ℕ) (ask : Op
   pub asked : (a : Ask) → ask ≡ Some a → IsAskedFor code before (what_of_ask a)
   pub may : (a : Ask) → ask ≡ Some a → MaySettle code before n (what_of_ask a)
 
--- what stands beside an ask is a copy of the end that it is
-abbrev pub IsSecondOf : Option End → Option Ask → Type 0
-IsSecondOf second asked = (e : End) → asked ≡ Some (asks.End e) → second ≡ Some e
+-- the text that an end gives, if it gives one
+abbrev pub text_given : End → Option (List ℕ)
+text_given (Gives (a_value.Text t)) = Some t
+text_given _ = None
+
+-- the text with which an ask ends its body, if it is such an end
+abbrev pub text_of_end : Option Ask → Option (List ℕ)
+text_of_end (Some (asks.End e)) = text_given e
+text_of_end _ = None
 
 -- the ask became the entry of this number
 pub record HasSettled (code : Parts) (before : Task) (n : ℕ) (w : What) (after : Task) : Type 0 where

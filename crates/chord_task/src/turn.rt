@@ -10,7 +10,7 @@ ghost use Rattle.chord_task.specs.declared.task.Task.{Task as ATask};
 ghost use Rattle.chord_task.specs.Standing.{view_of, IsTaskOf, is_ready_of, given_by, LastIsReady, HasReturned, HasRoomFor, HasMadeRoom, LosesNothing, WasStocked, SettlesFrames};
 ghost use Rattle.chord_task.specs.Arguments.{MayBeList};
 ghost use Rattle.chord_task.specs.Past.{AddsOne};
-ghost use Rattle.chord_task.specs.Turning.{sent_to, sent_of, MayTurn, HasTurned, RunsOn, HasSettled, AwaitsNumber, IsSecondOf, AreBare, IsBareEnd, OwnsNothing};
+ghost use Rattle.chord_task.specs.Turning.{sent_to, sent_of, MayTurn, HasTurned, RunsOn, HasSettled, AwaitsNumber, text_given, text_of_end, AreBare, IsBareEnd, OwnsNothing};
 
 use crate::body::{Body, Next, put};
 use crate::past::Past;
@@ -163,15 +163,56 @@ fn append_ended(past: &mut Past, list: &mut Vec<Entry>, number: u32, body: u32, 
     }
 }
 
-/// A copy of the end that this ask is; of another ask, none. A number is looked for first.
+/// Forgets a place for a text in which there is none, since a drop would look for memory.
 #[inline(always)]
-fn second_end(alloc: Global, asked: &Option<Ask>) -> Result<Option<End>, AllocError>
-    ensures { IfOk result (λ second. IsSecondOf second asked.now) }
+pub fn forget_text(place: Option<Text>)
+    requires { place ≡ None }
+{
+    mem::forget(place);
+}
+
+/// Puts a text where there is none.
+fn put_text(place: &mut Option<Text>, text: Text)
+    requires { place.old ≡ None }
+    ensures { place.new ≡ Some text }
+{
+    forget_text(mem::replace(place, Some(text)));
+}
+
+/// Copies the text that a body gives at its end, if this ask is such an end. Copies of other ends never fail, so they wait until the number is drawn.
+#[inline(always)]
+fn copy_text(
+    alloc: Global,
+    asked: &Option<Ask>,
+    second: &mut Option<Text>,
+) -> Result<(), AllocError>
+    requires { second.old ≡ None }
+    ensures { OnOk result (second.new ≡ text_of_end asked.now) }
 {
     match asked {
-        Some(Ask::End(End::Gives(Value::Int(lone)))) => Ok(Some(End::Gives(Value::Int(*lone)))),
-        Some(Ask::End(end)) => Ok(Some(end.copied(alloc)?)),
-        _ => Ok(None),
+        Some(Ask::End(End::Gives(Value::Text(text)))) => put_text(second, text.copied(alloc)?),
+        _ => {}
+    }
+    Ok(())
+}
+
+/// A copy of an end, for the body below. Of what an end gives only a text's copy may fail: that one was taken before, and is used up here.
+#[inline(always)]
+fn end_copy(end: &End, second: &mut Option<Text>) -> End
+    requires { second.old ≡ text_given end.now }
+    ensures end { result ≡ end.now }
+    ensures none { second.new ≡ None }
+{
+    match end {
+        End::Gives(Value::Int(lone)) => End::Gives(Value::Int(*lone)),
+        End::Gives(Value::Unit) => End::Gives(Value::Unit),
+        End::Gives(Value::Flag(flag)) => End::Gives(Value::Flag(*flag)),
+        End::Gives(Value::Ref(object)) => End::Gives(Value::Ref(*object)),
+        End::Gives(Value::Text(_)) => match mem::replace(second, None) {
+            Some(text) => End::Gives(Value::Text(text)),
+            None => unreachable!(),
+        },
+        End::Traps(trap) => End::Traps(*trap),
     }
 }
 
@@ -311,83 +352,90 @@ impl Task {
             Some(body) => {
                 let mut asked = None;
                 advance_to(alloc, code, &mut *body.frames, &mut asked)?;
-                match self.make_room(alloc, code, &asked, list) {
-                    Ok(second) => {
-                        let sent = self.settle(code, number, &mut asked, second, list);
-                        forget_ask(asked);
-                        Ok(sent)
-                    }
-                    Err(error) => Err(error),
-                }
+                let mut second = None;
+                self.make_room(alloc, code, &asked, &mut second, list)?;
+                let sent = self.settle(code, number, &mut asked, &mut second, list);
+                forget_ask(asked);
+                forget_text(second);
+                Ok(sent)
             }
         }
     }
 
-    /// Makes room for the entry of an ask that is with its caller, and for a firing after it, and takes a copy of an end, for the body below. So whoever draws the
-    /// entry's number after that can settle it, whatever memory there is then. Nothing else of the task changes, and nothing of the list.
+    /// Makes room for the entry of an ask that is with its caller, and for a firing after it, and takes a copy of the text that an end gives, for the body below.
+    /// So whoever draws the entry's number after that can settle it, whatever memory there is then: copies of other ends never fail, so they wait until the
+    /// number is drawn. Nothing else of the task changes, and nothing of the list.
     #[inline(always)]
     pub fn make_room(
         &mut self,
         alloc: Global,
         code: &Code,
         asked: &Option<Ask>,
+        second: &mut Option<Text>,
         list: &mut Vec<Entry>,
-    ) -> Result<Option<End>, AllocError>
+    ) -> Result<(), AllocError>
         requires spare { HasRoomFor code.now self.old.limits self.old.spare }
         requires values { MayBeList self.old.values }
+        requires none { second.old ≡ None }
         ensures room { OnOk result (HasMadeRoom code.now self.old self.new) }
         ensures place { OnOk result (vec_len list.new < vec_capacity list.new) }
-        ensures second { IfOk result (λ second. IsSecondOf second asked.now) }
+        ensures second { OnOk result (second.new ≡ text_of_end asked.now) }
         ensures listed { list.new.items ≡ list.old.items }
         ensures kept { LosesNothing code.now self.old self.new }
         ensures entries { vec_len list.old < vec_capacity list.old → list.new ≡ list.old }
     {
         self.take_room(alloc, code, list)?;
-        second_end(alloc, asked)
+        copy_text(alloc, asked, second)
     }
 
-    /// The body on top ends: its end, which is taken, becomes the entry of this number, and its caller gets the copy.
+    /// The body on top ends: its end, which is taken, becomes the entry of this number, and its caller gets a copy.
     #[inline(never)]
-    fn end_turn(&mut self, number: u32, end: &mut End, second: Option<End>, list: &mut Vec<Entry>)
+    fn end_turn(
+        &mut self,
+        number: u32,
+        end: &mut End,
+        second: &mut Option<Text>,
+        list: &mut Vec<Entry>,
+    )
         requires place { vec_len list.old < vec_capacity list.old }
         requires runs { RunsOn self.old.top }
         requires ready { LastIsReady self.old.below.items }
-        requires second { second ≡ Some end.old }
+        requires second { second.old ≡ text_given end.old }
         ensures past { (b : ABody) → self.old.top ≡ Some b → self.new.past ≡ self.old.past ++ record { number = number; body = b.number; what = What.Ended end.old } ∷ [] }
         ensures items { (b : ABody) → self.old.top ≡ Some b → list.new.items ≡ list.old.items ++ record { number = number; body = b.number; what = What.Ended end.old } ∷ [] }
         ensures below { vec_capacity self.new.below ≡ vec_capacity self.old.below }
         ensures ended { HasReturned end.old self.old.below self.new.below self.new.top }
         ensures rest { self.new ≡ record { past = self.new.past; top = self.new.top; below = self.new.below; spare = self.old.spare; ended = self.new.ended; values = self.old.values; limits = self.old.limits; enclosed = self.old.enclosed } }
         ensures bare { IsBareEnd end.new }
+        ensures none { second.new ≡ None }
         ensures frames { (b : ABody) → self.old.top ≡ Some b → self.new.ended ≡ Some b.frames }
     {
         let maker = number_of(&self.top);
+        let copy = end_copy(end, second);
         append_ended(&mut self.past, list, number, maker, end);
-        match second {
-            None => unreachable!(),
-            Some(second) => end_top(&mut self.top, &mut self.below, &mut self.ended, second),
-        }
+        end_top(&mut self.top, &mut self.below, &mut self.ended, copy);
     }
 
     /// The ask to which the body on top came becomes the entry of this number, once there is room for it: what owns memory is taken out of it, so that what is
     /// left may be forgotten. A new object is the body's answer, a message and a line need none, and after a call the body waits. An end answers the body
-    /// below by its copy. Gives what a message is to, where the entry is one.
+    /// below by a copy. Gives what a message is to, where the entry is one.
     #[inline(always)]
     pub fn settle(
         &mut self,
         code: &Code,
         number: u32,
         asked: &mut Option<Ask>,
-        second: Option<End>,
+        second: &mut Option<Text>,
         list: &mut Vec<Entry>,
     ) -> Option<(Object, u8)>
         requires some { asked.old ≢ None }
         requires awaits { (t : ATask) × AwaitsNumber code.now t self.old number asked.old }
         requires place { vec_len list.old < vec_capacity list.old }
-        requires second { IsSecondOf second asked.old }
+        requires second { second.old ≡ text_of_end asked.old }
         ensures settled { (t : ATask) → AwaitsNumber code.now t self.old number asked.old → (a : Ask) × (asked.old ≡ Some a) × HasSettled code.now t number (what_of_ask a) self.new × (result ≡ sent_to (what_of_ask a)) }
         ensures listed { AddsOne self.old.past self.new.past list.old.items list.new.items }
         ensures bare { OwnsNothing asked.new }
+        ensures none { second.new ≡ None }
         ensures over { (t : ATask) → HasMadeRoom code.now t self.old → (e : AnEnd) → asked.old ≡ Some (Ask.End e) → vec_len t.below ≡ 0 → self.new.top ≡ None }
         ensures frames { (t : ATask) → HasMadeRoom code.now t self.old → (a : Ask) → asked.old ≡ Some a → SettlesFrames code.now t (what_of_ask a) self.new }
     {

@@ -16,7 +16,7 @@ use chord_space::{AsEntry, Desk, Space, Spent};
 use chord_task::apart::Apart;
 use chord_task::parcel::Parcel;
 use chord_task::task::Task;
-use chord_task::turn::drop_ask;
+use chord_task::turn::{drop_ask, forget_text};
 use chord_vm::ask::Ask;
 use std::alloc::{AllocError, Global};
 
@@ -120,10 +120,13 @@ pub(crate) fn draw_own(
     ensures undrawn { OnErr result ((view desk.new ≡ view desk.old) × (draws.new.items ≡ draws.old.items)) }
 {
     let body = top_number(&task.value);
-    let second = task.value.make_room(alloc, code, asked, draws)?;
+    let mut second = None;
+    task.value
+        .make_room(alloc, code, asked, &mut second, draws)?;
     match draw_ask(space, desk, body, asked) {
         Ok(number) => {
-            task.value.settle(code, number, asked, second, draws);
+            task.value.settle(code, number, asked, &mut second, draws);
+            forget_text(second);
             Ok(Some(number))
         }
         Err(_) => {

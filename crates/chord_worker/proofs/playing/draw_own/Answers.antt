@@ -21,7 +21,7 @@ pub settle-requires-clause-awaits : goal.settle-requires-clause-awaits
 settle-requires-clause-awaits c =
     let s = c.args.space.now in
     let top = rw (c.deref.ensures ∙ c.task.view_is) at c.top_number-body.ensures in
-    let room = rw (c.deref_mut.ensures.value ∙ c.task.view_is, c.requires.code) at c.in_ok-second.ensures.room in (
+    let room = rw (c.deref_mut.ensures.value ∙ c.task.view_is, c.requires.code) at c.in_ok-make_room.ensures.room in (
       c.args.task.now,
       rw (c.requires.code, c.deref_mut-in-Ok.ensures.value)
           (awaits_drawn (space_code s) (space_limits s) c.args.task.now c.make_room.new.self c.args.asked.now (view c.args.desk.now).kept c.top_number-body.result c.in-Ok.number top c.requires.sound room c.requires.came (λ a e. let d = c.in-Ok.ensures.drawn a e in (d.below, d.place))),
@@ -31,7 +31,7 @@ pub returns-in-Ok-clause-noted : goal.returns-in-Ok-clause-noted
 returns-in-Ok-clause-noted c = λ a t e came.
     let s = c.args.space.now in
     let top = rw (c.deref.ensures ∙ c.task.view_is) at c.top_number-body.ensures in
-    let room = rw (c.deref_mut.ensures.value ∙ c.task.view_is, c.requires.code) at c.in_ok-second.ensures.room in
+    let room = rw (c.deref_mut.ensures.value ∙ c.task.view_is, c.requires.code) at c.in_ok-make_room.ensures.room in
     let awaits = awaits_drawn (space_code s) (space_limits s) c.args.task.now c.make_room.new.self c.args.asked.now (view c.args.desk.now).kept c.top_number-body.result c.in-Ok.number top c.requires.sound room c.requires.came (λ a e. let d = c.in-Ok.ensures.drawn a e in (d.below, d.place)) in
     let settled = rw (c.requires.code, c.deref_mut-in-Ok.ensures.value) at c.settle.ensures.settled in
     let x = settled_as (space_code s) c.args.task.now c.settle.new.self c.args.asked.now c.in-Ok.number c.settle.result (settled c.args.task.now awaits) in
@@ -44,7 +44,7 @@ returns-in-Ok-clause-listed c =
     let a = some_ask c.args.asked.now c.requires.some in
     let y = c.requires.came a.0 a.1 in
     let top = rw (c.deref.ensures ∙ c.task.view_is) at c.top_number-body.ensures in
-    let room = rw (c.deref_mut.ensures.value ∙ c.task.view_is, c.requires.code) at c.in_ok-second.ensures.room in
+    let room = rw (c.deref_mut.ensures.value ∙ c.task.view_is, c.requires.code) at c.in_ok-make_room.ensures.room in
     let awaits = awaits_drawn (space_code s) (space_limits s) c.args.task.now c.make_room.new.self c.args.asked.now (view c.args.desk.now).kept c.top_number-body.result c.in-Ok.number top c.requires.sound room c.requires.came (λ a e. let d = c.in-Ok.ensures.drawn a e in (d.below, d.place)) in
     let settled = rw (c.requires.code, c.deref_mut-in-Ok.ensures.value) at c.settle.ensures.settled in
     let x = settled_as (space_code s) c.args.task.now c.settle.new.self c.args.asked.now c.in-Ok.number c.settle.result (settled c.args.task.now awaits) in
@@ -56,6 +56,6 @@ returns-in-Ok-clause-listed c =
 
 pub returns-in-Ok-clause-over : goal.returns-in-Ok-clause-over
 returns-in-Ok-clause-over c =
-    let room = rw (c.deref_mut.ensures.value ∙ c.task.view_is) at c.in_ok-second.ensures.room in
+    let room = rw (c.deref_mut.ensures.value ∙ c.task.view_is) at c.in_ok-make_room.ensures.room in
     let over = rw (c.deref_mut-in-Ok.ensures.value) at c.settle.ensures.over in
     over c.args.task.now room

@@ -36,9 +36,6 @@ end_turn-requires-clause-ready c =
     let x = awaiting_room c.args.code.now t c.args.self.now c.args.number c.args.asked.now (ask.End c.in-End.end) c.in-Some.body c.requires.awaits.1 (c.in-Some-asked.is ∙ ap Some c.in-End.is) c.in-Some.is in
     roomy_ready c.args.code.now t c.args.self.now c.args.number (Ended c.in-End.end) c.in-Some.body x
 
-pub end_turn-requires-clause-second : goal.end_turn-requires-clause-second
-end_turn-requires-clause-second c = c.requires.second c.in-End.end (c.in-Some-asked.is ∙ ap Some c.in-End.is)
-
 pub returns-in-Make-clause-settled : goal.returns-in-Make-clause-settled
 returns-in-Make-clause-settled c = λ t d.
     let a : Ask = ask.Make c.in-Make.class in
