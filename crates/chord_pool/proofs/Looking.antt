@@ -9,7 +9,7 @@ use Rattle.chord_rule.specs.Kinds.{saw}
 use Rattle.chord_rule.specs.Tells.{a_word}
 use Rattle.chord_rule.specs.Ways.{LastSeen}
 use Rattle.chord_roll.specs.declared.card.Card.{Card}
-use Rattle.chord_roll.specs.Cards.{counts, last_read}
+use Rattle.chord_roll.specs.Cards.{counts, ended, last_read}
 use Rattle.chord_space.specs.declared.space.Space.{Space}
 use Rattle.chord_space.specs.Desks.{view}
 use Rattle.chord_task.specs.declared.parcel.Opened.{Opened as Parcel}
@@ -194,8 +194,8 @@ started_since knows u v w none same started = (started.0, plays_since knows u v 
 -- a player that looked and found a firing, where b is the player as it began to look, and l as it was after it
 pub found_first : (knows : ℕ → Type 0) (x b l y : Player) → b.worker ≡ x.worker → b.known ≡ x.known → BeginsLook x b.place b.misses
     → PlaysFiring knows (view b.worker.desk).kept b.worker.task l.worker l.place → b.place ≤ l.place → AreUnready b.place l.place (view l.worker.desk).looked.seen
-    → (counts x.card ≡ false → last_read y.card ≢ Some 0 → l.place < b.known) → y.worker ≡ l.worker → y.place ≡ l.place → y.misses ≡ 0 → HasFound knows x y
-found_first knows x b l y worker known begins plays onward before fresh same_worker same_place missed = record {
+    → (counts x.card ≡ false → last_read y.card ≢ Some 0 → l.place < b.known) → y.worker ≡ l.worker → y.place ≡ l.place → y.misses ≡ 0 → (counts x.card ≡ true → ended y.card ≡ ended x.card) → HasFound knows x y
+found_first knows x b l y worker known begins plays onward before fresh same_worker same_place missed on = record {
   from = b.place;
   begins = inl (b.misses, begins);
   onward = subst (λ (n : ℕ). b.place ≤ n) (sym same_place) onward;
@@ -203,13 +203,14 @@ found_first knows x b l y worker known begins plays onward before fresh same_wor
   fresh = λ not unread. let low = fresh not unread in omega (arith, low, same_place, known);
   plays = rw (same_worker, same_place, sym worker) plays;
   misses = missed;
+  on = on;
 }
 
--- a player that read that nobody is at work, found none and then looked from the first number on, and found a firing: it was l before that look, and z after it
+-- a player that did not count, read that nobody is at work, found none and then looked from the first number on, and found a firing: it was l before that look, and z after it
 pub found_far : (knows : ℕ → Type 0) (x b l z y : Player) → b.worker ≡ x.worker → x.worker.task ≡ None → (view l.worker.desk).kept ≡ (view b.worker.desk).kept
     → PlaysFiring knows (view l.worker.desk).kept l.worker.task z.worker z.place → AreUnready 0 z.place (view z.worker.desk).looked.seen → last_read y.card ≡ Some 0
-    → y.worker ≡ z.worker → y.place ≡ z.place → y.misses ≡ 0 → HasFound knows x y
-found_far knows x b l z y worker none kept plays before read same_worker same_place missed = record {
+    → y.worker ≡ z.worker → y.place ≡ z.place → y.misses ≡ 0 → counts x.card ≡ false → HasFound knows x y
+found_far knows x b l z y worker none kept plays before read same_worker same_place missed not = record {
   from = 0;
   begins = inr (refl, read);
   onward = omega arith;
@@ -217,6 +218,7 @@ found_far knows x b l z y worker none kept plays before read same_worker same_pl
   fresh = λ not unread. absurd (unread read);
   plays = rw (same_worker, same_place) (plays_since knows x.worker l.worker z.worker z.place none (kept ∙ ap (λ (w : Worker). (view w.desk).kept) worker) plays);
   misses = missed;
+  on = λ yes. let z : true ≡ false = sym yes ∙ not in absurd (cc);
 }
 
 -- a player that looked and found none, where b is the player as it began to look, and l as it was after it
@@ -239,9 +241,9 @@ found_none s x b l y all worker known begins as_counted none kept through next u
   knows_count = (count.0, rw same_worker count.1, same_known ∙ count.2);
 }
 
--- a look of a player with another card, which counted where this one does
-pub looked_by : (knows : ℕ → Type 0) (s : Space Parcel) (x y : Player) (k : Card) → counts k ≡ counts x.card → HasLooked knows s (record x { card = k }) y → HasLooked knows s x y
-looked_by knows s x y k same (inl found) = inl (record {
+-- a look of a player with another card, which counted where this one does, and was counted off as often
+pub looked_by : (knows : ℕ → Type 0) (s : Space Parcel) (x y : Player) (k : Card) → counts k ≡ counts x.card → ended k ≡ ended x.card → HasLooked knows s (record x { card = k }) y → HasLooked knows s x y
+looked_by knows s x y k same as_often (inl found) = inl (record {
   from = found.from;
   begins = ⊎_elim (λ near. inl (near.0, record { near = near.1.near; far = near.1.far })) (λ read. inr read) found.begins;
   onward = found.onward;
@@ -249,8 +251,9 @@ looked_by knows s x y k same (inl found) = inl (record {
   fresh = λ not. found.fresh (same ∙ not);
   plays = found.plays;
   misses = found.misses;
+  on = λ yes. found.on (same ∙ yes) ∙ as_often;
 })
-looked_by knows s x y k same (inr none) = inr (record {
+looked_by knows s x y k same as_often (inr none) = inr (record {
   from = none.from;
   misses = none.misses;
   below = none.below;

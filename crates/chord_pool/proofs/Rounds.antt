@@ -1,6 +1,7 @@
 -- Rounds of a player, one after the other, and turns of the first worker alone.
 use Rattle.std.proofs.Common.{◌≡◌, ℕ, List, [], ◌∷◌, ◌++◌, refl, sym, ap, ◌∙◌, subst}
-use Rattle.chord_roll.specs.Cards.{counts, IsSameCard}
+use Rattle.chord_roll.specs.declared.card.Card.{Card}
+use Rattle.chord_roll.specs.Cards.{IsSameCard}
 use Rattle.chord_space.specs.declared.space.Space.{Space}
 use Rattle.chord_space.specs.Desks.{view}
 use Rattle.chord_task.specs.declared.parcel.Opened.{Opened as Parcel}
@@ -8,7 +9,7 @@ use Rattle.chord_worker.specs.declared.worker.Worker.{Worker}
 use Rattle.chord_worker.specs.Resting.{IsSameRole}
 use Rattle.chord_worker.specs.Stepping.{StillPlays}
 use Rattle.chord_pool.specs.declared.player.Player.{Player}
-use Rattle.chord_pool.specs.Players.{HadARound, StandsStill, IsBetweenRounds, AreRounds, HadRounds, HasLeftOff, HaveAllLeftOff, IsSettled, MayPlay, PlaysOn, CountsIfItPlays}
+use Rattle.chord_pool.specs.Players.{HadARound, StandsStill, CountsAsBefore, IsBetweenRounds, AreRounds, HadRounds, HasLeftOff, HaveAllLeftOff, IsSettled, MayPlay, PlaysOn, CountsIfItPlays}
 use Rattle.chord_pool.specs.declared.ending.Alone.{Alone}
 use Rattle.chord_pool.specs.Ending.{HadATurn, AreTurns, HadTurns, HasLeftOffAlone}
 
@@ -16,13 +17,17 @@ use Rattle.chord_pool.specs.Ending.{HadATurn, AreTurns, HadTurns, HasLeftOffAlon
 stands_on : (x y z : Player) → StandsStill x y → StandsStill y z → StandsStill x z
 stands_on x y z a b = record { place = b.place ∙ a.place; known = b.known ∙ a.known; misses = b.misses ∙ a.misses }
 
+-- a worker counts as before, twice
+counts_on : (c d e : Card) → CountsAsBefore c d → CountsAsBefore d e → CountsAsBefore c e
+counts_on c d e a b = record { same = b.same ∙ a.same; on = b.on ∙ a.on }
+
 -- nothing happens between two rounds, twice
 between_on : (x y z : Player) → IsBetweenRounds x y → IsBetweenRounds y z → IsBetweenRounds x z
-between_on x y z a b = record { worker = b.worker ∙ a.worker; stands = stands_on x y z a.stands b.stands }
+between_on x y z a b = record { worker = b.worker ∙ a.worker; stands = stands_on x y z a.stands b.stands; counted = counts_on x.card y.card z.card a.counted b.counted }
 
 -- nothing happens to a player that stays as it is
 pub between_none : (x : Player) → IsBetweenRounds x x
-between_none x = record { worker = refl; stands = record { place = refl; known = refl; misses = refl } }
+between_none x = record { worker = refl; stands = record { place = refl; known = refl; misses = refl }; counted = record { same = refl; on = refl } }
 
 -- nor does it behind rounds
 rounds_stay : (knows : ℕ → Type 0) (s : Space Parcel) (x y z : Player) (ys : List Player) → AreRounds knows s x ys y → IsBetweenRounds y z → AreRounds knows s x ys z
@@ -55,8 +60,8 @@ pub may_between : (s : Space Parcel) (y z : Player) → IsBetweenRounds y z → 
 may_between s y z same failed may = λ sane. subst (IsSettled s) (sym same.worker) (may (sym failed ∙ sane))
 
 -- and counts if it plays
-pub counts_between : (y z : Player) → IsBetweenRounds y z → counts z.card ≡ counts y.card → CountsIfItPlays y → CountsIfItPlays z
-counts_between y z same as_before so = λ has. as_before ∙ so (λ none. has (ap (λ (w : Worker). w.task) same.worker ∙ none))
+pub counts_between : (y z : Player) → IsBetweenRounds y z → CountsIfItPlays y → CountsIfItPlays z
+counts_between y z same so = λ has. same.counted.same ∙ so (λ none. has (ap (λ (w : Worker). w.task) same.worker ∙ none))
 
 -- at the same desk, with the same card
 pub plays_on_between : (x y z : Player) → PlaysOn x y → IsBetweenRounds y z → z.failed ≡ y.failed → IsSameCard y.card z.card → PlaysOn x z

@@ -8,7 +8,7 @@ use Rattle.chord_rule.specs.declared.view.Look.{Look}
 use Rattle.chord_rule.specs.declared.view.View.{View}
 use Rattle.chord_rule.specs.Ways.{LastSeen}
 use Rattle.chord_roll.specs.declared.card.Card.{Card}
-use Rattle.chord_roll.specs.Cards.{counts, hired, last_read, stops, roll_of, IsFirstCard, IsSameCard}
+use Rattle.chord_roll.specs.Cards.{counts, ended, hired, last_read, stops, roll_of, IsFirstCard, IsSameCard}
 use Rattle.chord_space.specs.declared.space.Space.{Space}
 use Rattle.chord_space.specs.Desks.{view, space_code, space_limits, program_of}
 use Rattle.chord_task.specs.declared.parcel.Opened.{Opened as Parcel}
@@ -49,6 +49,11 @@ TellsIfItFails x = x.failed ≡ true → stops x.card ≡ true
 -- a player that plays a task counts among those at work
 abbrev pub CountsIfItPlays : Player → Type 0
 CountsIfItPlays x = x.worker.task ≢ None → counts x.card ≡ true
+
+-- whether the worker counts is as it was, and it was not counted off in between
+pub record CountsAsBefore (c d : Card) : Type 0 where
+  pub same : counts d ≡ counts c
+  pub on : ended d ≡ ended c
 
 -- the cell i was last seen in another state than ready
 abbrev pub IsUnready : ℕ → List Look → Type 0
@@ -147,7 +152,7 @@ pub record BeginsLook (x : Player) (from misses : ℕ) : Type 0 where
 abbrev pub BeginsAt : Player → Player → ℕ → Type 0
 BeginsAt x y from = ((misses : ℕ) × BeginsLook x from misses) ⊎ ((from ≡ 0) × (last_read y.card ≡ Some 0))
 
--- a player that had no task plays the firing at its place now, of which the gate knows, and whose entry its desk keeps beside all that it kept: each cell from where its look began up to that one was last seen in another state than ready, and one that does not count took none that was drawn since its last look, unless it read that nobody is at work
+-- a player that had no task plays the firing at its place now, of which the gate knows, and whose entry its desk keeps beside all that it kept: each cell from where its look began up to that one was last seen in another state than ready, one that does not count took none that was drawn since its last look, unless it read that nobody is at work, and one that counts was not counted off
 pub record HasFound (knows : ℕ → Type 0) (x y : Player) : Type 0 where
   pub from : ℕ
   pub begins : BeginsAt x y from
@@ -156,6 +161,7 @@ pub record HasFound (knows : ℕ → Type 0) (x y : Player) : Type 0 where
   pub fresh : counts x.card ≡ false → last_read y.card ≢ Some 0 → y.place < x.known
   pub plays : PlaysFiring knows (view x.worker.desk).kept x.worker.task y.worker y.place
   pub misses : y.misses ≡ 0
+  pub on : counts x.card ≡ true → ended y.card ≡ ended x.card
 
 -- a player that had no task has none and keeps what it kept: it looked at the numbers from where its look begins up to those that it knew of, or all that are given if it counts, found no firing to start there, goes on at most 256 below their end, and knows how many are given now
 pub record HasFoundNone (s : Space Parcel) (x y : Player) : Type 0 where
@@ -176,12 +182,13 @@ pub record HasFoundNone (s : Space Parcel) (x y : Player) : Type 0 where
 abbrev pub HasLooked : (ℕ → Type 0) → Space Parcel → Player → Player → Type 0
 HasLooked knows s x y = HasFound knows x y ⊎ HasFoundNone s x y
 
--- a player went on with its task, drew entries of the body on top and at most one firing, plays no other task but a body of which the gate knows, and stands where it stood, or it looked for a firing
+-- a player went on with its task and counted all the while, drew entries of the body on top and at most one firing, plays no other task but a body of which the gate knows, and stands where it stood, or it looked for a firing
 pub record HadARound (knows : ℕ → Type 0) (s : Space Parcel) (x y : Player) : Type 0 where
   pub went : (t : Task) → x.worker.task ≡ Some t → HasGoneOn (view x.worker.desk).kept t y.worker
   pub plays : (t : Task) → x.worker.task ≡ Some t → PlaysNext knows (view x.worker.desk).kept t y.worker
   pub drew : (t : Task) → x.worker.task ≡ Some t → DrewAStep t (view x.worker.desk).draws (view y.worker.desk).draws
   pub stands : (t : Task) → x.worker.task ≡ Some t → StandsStill x y
+  pub counted : (t : Task) → x.worker.task ≡ Some t → (counts x.card ≡ true) × CountsAsBefore x.card y.card
   pub looked : x.worker.task ≡ None → HasLooked knows s x y
 
 -- it has the same card, and plays at the same desk unless it fails
@@ -196,10 +203,11 @@ pub record IsOnTheWay (s : Space Parcel) (x y : Player) : Type 0 where
   pub counts_so : CountsIfItPlays y
   pub told_nothing : stops y.card ≡ false
 
--- between two rounds a player has the same worker, and stands where it stood
+-- between two rounds a player has the same worker, stands where it stood, and counts as before
 pub record IsBetweenRounds (x y : Player) : Type 0 where
   pub worker : y.worker ≡ x.worker
   pub stands : StandsStill x y
+  pub counted : CountsAsBefore x.card y.card
 
 -- rounds lead from x to y, and these are the players after each of them, the newest first
 abbrev pub AreRounds : (ℕ → Type 0) → Space Parcel → Player → List Player → Player → Type 0

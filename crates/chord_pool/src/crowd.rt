@@ -1,6 +1,6 @@
 //! Where workers crowd at the counter, one that draws less than its share stands aside for a moment. No clause rests on it.
 ghost use Rattle.std.specs.Prelude.{◌≡◌};
-ghost use Rattle.chord_roll.specs.Cards.{counts, stops, IsSameCard};
+ghost use Rattle.chord_roll.specs.Cards.{counts, ended, stops, IsSameCard};
 
 use chord_roll::Card;
 use chord_worker::Worker;
@@ -65,6 +65,7 @@ impl Crowd {
     /// The worker has played a spell. If it has a task, and drew less than its share, it stands aside for a moment.
     pub(crate) fn stand_aside<R: Wait>(&mut self, rt: &R, worker: &Worker, card: &mut Card)
         ensures card { IsSameCard card.old card.new × (counts card.new ≡ counts card.old) × (stops card.new ≡ stops card.old) }
+        ensures ended { ended card.new ≡ ended card.old }
     {
         let (mine, all) = self.catch_up(worker);
         let (mine, all) = (mine as u64, all as u64);

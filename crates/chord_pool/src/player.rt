@@ -1,6 +1,6 @@
 //! A worker at its thread: it plays what it has, and looks for more.
 ghost use Rattle.std.specs.Prelude.{◌≡◌, ◌≢◌, ◌<◌, ◌≤◌, ◌+◌, ◌-◌, true, false, if◌then◌else◌, min, None, Some, is_some, IfNone, IfSome};
-ghost use Rattle.chord_roll.specs.Cards.{counts, last_read, stops, HasReadNothing, IsSameCard};
+ghost use Rattle.chord_roll.specs.Cards.{counts, ended, last_read, stops, HasReadNothing, IsSameCard};
 ghost use Rattle.chord_pool.specs.declared.player.Player.{Player as ThePlayer};
 ghost use Rattle.chord_space.specs.Desks.{view};
 ghost use Rattle.chord_task.specs.declared.task.Task.{Task as TheTask};
@@ -87,6 +87,7 @@ fn try_start<'a, G: Gate>(
     ensures stops { stops card.new ≡ stops card.old }
     ensures counts { result ≡ true → counts card.new ≡ true }
     ensures as_before { result ≡ false → counts card.new ≡ counts card.old }
+    ensures ended { counts card.old ≡ true → ended card.new ≡ ended card.old }
     ensures plays { result ≡ true → PlaysFiring G.knows (view worker.old.desk).kept worker.old.task worker.new i }
     ensures seen { result ≡ false → SawUnready (view worker.old.desk) (view worker.new.desk) i }
     ensures among { LookedAmong i (i + 1) (view worker.old.desk) (view worker.new.desk) }
@@ -126,6 +127,7 @@ fn sweep<'a, G: Gate>(
     ensures stops { stops card.new ≡ stops card.old }
     ensures counts { is_some result ≡ true → counts card.new ≡ true }
     ensures as_before { IfNone result (counts card.new ≡ counts card.old) }
+    ensures ended { counts card.old ≡ true → ended card.new ≡ ended card.old }
     ensures started { is_some result ≡ true → HasStarted G.knows worker.old worker.new }
     ensures kept { IfNone result ((view worker.new.desk).kept ≡ (view worker.old.desk).kept) }
     ensures count { IfNone result ((view worker.new.desk).looked.count ≡ (view worker.old.desk).looked.count) }
@@ -163,6 +165,7 @@ fn find_work<'a, G: Gate>(
     ensures stops { stops card.new ≡ stops card.old }
     ensures counts { worker.new.task ≢ None → counts card.new ≡ true }
     ensures as_before { worker.new.task ≡ None → counts card.new ≡ counts card.old }
+    ensures ended { counts card.old ≡ true → ended card.new ≡ ended card.old }
     ensures started { worker.new.task ≢ None → HasStarted G.knows worker.old worker.new }
     ensures kept { worker.new.task ≡ None → (view worker.new.desk).kept ≡ (view worker.old.desk).kept }
     ensures count { worker.new.task ≡ None → (view worker.new.desk).looked.count ≡ (view worker.old.desk).looked.count }
@@ -210,6 +213,7 @@ impl Player {
         ensures may { MayPlay run.now.space.now self.new }
         ensures on { PlaysOn self.old self.new }
         ensures card { counts self.new.card ≡ counts self.old.card }
+        ensures ended { ended self.new.card ≡ ended self.old.card }
         ensures heard { result ≡ true → stops self.new.card ≡ stops self.old.card }
         ensures sane { result ≡ true → self.new.failed ≡ false }
         ensures failed { result ≡ false → self.new.failed ≡ true }
@@ -259,6 +263,7 @@ impl Player {
         ensures stops { stops self.new.card ≡ stops self.old.card }
         ensures counts { self.new.worker.task ≢ None → counts self.new.card ≡ true }
         ensures as_before { self.new.worker.task ≡ None → counts self.new.card ≡ counts self.old.card }
+        ensures ended { counts self.old.card ≡ true → ended self.new.card ≡ ended self.old.card }
         ensures started { self.new.worker.task ≢ None → HasStarted G.knows self.old.worker self.new.worker }
         ensures kept { self.new.worker.task ≡ None → (view self.new.worker.desk).kept ≡ (view self.old.worker.desk).kept }
         ensures all { among_all ≡ true → last_read self.old.card ≡ Some 0 → self.new.worker.task ≡ None → FoundNone run.now.space.now self.old.place (view self.new.worker.desk) }
@@ -461,7 +466,7 @@ impl Player {
     fn give_way<R: Wait>(&mut self, rt: &R, crowd: &mut Crowd)
         ensures between { IsBetweenRounds self.old self.new }
         ensures same { self.new.failed ≡ self.old.failed }
-        ensures card { IsSameCard self.old.card self.new.card × (counts self.new.card ≡ counts self.old.card) × (stops self.new.card ≡ stops self.old.card) }
+        ensures card { IsSameCard self.old.card self.new.card × (stops self.new.card ≡ stops self.old.card) }
     {
         crowd.stand_aside(rt, &self.worker, &mut self.card);
     }

@@ -18,6 +18,7 @@ loop-i-preserved g c =
       saw_it.kept ∙ was.8,
       (let within = c.loop-i-test.true in omega (arith, within)),
       through_more (view c.args.worker.now.desk) (view c.loop-i.worker.desk) (view c.try_start.new.worker.desk) c.args.from c.loop-i.i c.loop-i.auto.i was.10 (now.through refl),
+      λ yes. now.ended (was.5 ∙ yes) ∙ was.11 yes,
     )
 
 pub returns-then-try_start-clause-started : goal.returns-then-try_start-clause-started
@@ -31,6 +32,9 @@ returns-then-try_start-clause-plays g c =
 pub returns-then-try_start-clause-before : goal.returns-then-try_start-clause-before
 returns-then-try_start-clause-before g c =
     unready_stay c.args.from c.loop-i.i (c.loop-i.i + 1) (view c.loop-i.worker.desk) (view c.try_start.new.worker.desk) c.loop-i.invariant.4 c.if-try_start.ensures.among
+
+pub returns-then-try_start-clause-ended : goal.returns-then-try_start-clause-ended
+returns-then-try_start-clause-ended g c = λ yes. c.if-try_start.ensures.ended (c.loop-i.invariant.5 ∙ yes) ∙ c.loop-i.invariant.11 yes
 
 pub returns-clause-through : goal.returns-clause-through
 returns-clause-through g c = through_all (view c.args.worker.now.desk) (view c.loop-i.worker.desk) c.args.from c.loop-i.i c.args.below c.loop-i-test.false c.loop-i.invariant.9 c.loop-i.invariant.10

@@ -5,7 +5,7 @@ use Rattle.chord_pool.proofs.Rounds.{no_rounds, more_rounds, rounds_and_between,
 use Rattle.chord_pool.proofs.player.work.Goals as goal
 
 pub loop-init : goal.loop-init
-loop-init g c = (search rules, search rules, search rules, search rules, search rules, search rules, no_rounds g.G.Gate.knows c.args.run.now.space.now c.args.player _ (record { worker = refl; stands = record { place = refl; known = refl; misses = refl } }))
+loop-init g c = (search rules, search rules, search rules, search rules, search rules, search rules, no_rounds g.G.Gate.knows c.args.run.now.space.now c.args.player _ (record { worker = refl; stands = record { place = refl; known = refl; misses = refl }; counted = record { same = refl; on = refl } }))
 
 pub loop-preserved : goal.loop-preserved
 loop-preserved g c = let was = c.loop.invariant in let now = c.if-not-rounds.ensures in let between = c.give_way.ensures in (
@@ -14,7 +14,7 @@ loop-preserved g c = let was = c.loop.invariant in let now = c.if-not-rounds.ens
   may_between c.args.run.now.space.now c.rounds.new.self c.give_way.new.self between.between between.same now.may,
   plays_on_between c.args.player c.rounds.new.self c.give_way.new.self
       ((now.on.0.0 ∙ was.3.0.0, now.on.0.1 ∙ was.3.0.1), λ sane. role_stays (view c.args.player.worker.desk) (view c.loop.player.worker.desk) (view c.rounds.new.self.worker.desk) (was.3.1 was.5) (now.on.1 sane)) between.between between.same (between.card.0.0, between.card.0.1),
-  counts_between c.rounds.new.self c.give_way.new.self between.between between.card.1 (now.counts refl),
+  counts_between c.rounds.new.self c.give_way.new.self between.between (now.counts refl),
   between.same ∙ now.sane refl,
   rounds_and_between g.G.Gate.knows c.args.run.now.space.now c.args.player c.rounds.new.self c.give_way.new.self
       (more_rounds g.G.Gate.knows c.args.run.now.space.now c.args.player c.loop.player c.rounds.new.self was.6 (now.had refl)) between.between,

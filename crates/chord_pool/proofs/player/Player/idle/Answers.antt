@@ -1,6 +1,6 @@
 use Rattle.std.proofs.Common.{◌≡◌, ◌∙◌, refl, sym, ap, true, false, Some, inl, inr, arith}
 use Rattle.std.proofs.lemmas.Bool.{ne_eqb}
-use Rattle.chord_roll.specs.Cards.{counts, last_read}
+use Rattle.chord_roll.specs.Cards.{counts, ended, last_read}
 use Rattle.chord_pool.proofs.Looking.{none_there, found_first, found_far, found_none}
 use Rattle.chord_pool.proofs.Endings.{task_started}
 use Rattle.chord_pool.proofs.player.Player.idle.Goals as goal
@@ -42,7 +42,8 @@ returns-then-has_task-clause-looked g c = λ _.
     let counted : c.is_at_work-counted.result ≡ false = c.is_at_work-counted.ensures ∙ ap counts same.1 ∙ c.read-working.ensures.same.2 ∙ not in
     let all : c.if-counted.look ≡ false = elim c.if-counted.branch [ then-counted w ↦ absurd (cc) | else-counted w ↦ w.look-is ∙ ne_eqb c.read-working.result 0 (λ e. unread (read ∙ ap Some e)) ] in
     look.fresh some all)
-    found.same.0 found.same.2 found.misses)
+    found.same.0 found.same.2 found.misses
+    (λ yes. ap ended found.same.3 ∙ look.ended (ap counts same.1 ∙ c.read-working.ensures.same.2 ∙ yes) ∙ ap ended same.1 ∙ c.read-working.ensures.ended))
 
 pub returns-then-working-eq0-clause-looked : goal.returns-then-working-eq0-clause-looked
 returns-then-working-eq0-clause-looked g c = λ _.
@@ -54,4 +55,5 @@ returns-then-working-eq0-clause-looked g c = λ _.
     let some = task_started c.look_far.new.self.worker.task (sym c.has_task-then-working-eq0.ensures ∙ c.if-not-has_task.false) in
     let read : last_read c.found-then-working-eq0.new.self.card ≡ Some 0 = ap last_read found.same.3 ∙ far.card.1 ∙ look.card.1 ∙ ap last_read same.1 ∙ c.read-working.ensures.read ∙ ap Some c.if-working-eq0.true in
     inl (found_far g.G.Gate.knows c.args.self.now c.begin_look.new.self c.look.new.self c.look_far.new.self c.found-then-working-eq0.new.self same.0 c.requires.idle (look.kept none)
-    (far.plays some) (far.before some) read found.same.0 found.same.2 found.misses)
+    (far.plays some) (far.before some) read found.same.0 found.same.2 found.misses
+    (sym c.read-working.ensures.same.2 ∙ sym (ap counts same.1) ∙ sym c.if-counted-2.ensures))

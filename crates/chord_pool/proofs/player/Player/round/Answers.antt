@@ -9,5 +9,6 @@ returns-clause-went g c = λ more.
       plays = search rules;
       drew = search rules;
       stands = search rules;
-      looked = λ none. looked_by g.G.Gate.knows c.args.run.now.space.now c.args.self.now c.idle.new.self c.has_stopped.new.self c.has_stopped.ensures.same.2 (c.idle.ensures.looked more);
+      counted = search rules;
+      looked = λ none. looked_by g.G.Gate.knows c.args.run.now.space.now c.args.self.now c.idle.new.self c.has_stopped.new.self c.has_stopped.ensures.same.2 c.has_stopped.ensures.ended (c.idle.ensures.looked more);
     }
