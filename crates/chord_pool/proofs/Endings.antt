@@ -159,7 +159,7 @@ stays_alone s v w was settled role = record { settled = settled; first = role.fi
 pub may_close : (s : Space Parcel) (w : Worker) (n c count : ℕ) → IsFit s w → (view w.desk).first ≡ true → (view w.desk).drawn ≡ true → (view w.desk).lent ≡ 0
     → (view w.desk).looked.count ≡ Some c → count ≡ min c n → count ≢ n → AreAwake 0 count (view w.desk).looked.seen → MayClose (view w.desk)
 may_close s w n c count fit first drawn lent counted least below awake = record {
-  idle = record {
+  done = record {
     first = first;
     begun = drawn;
     lent = lent;

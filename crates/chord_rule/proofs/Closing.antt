@@ -205,19 +205,19 @@ module _ {P : Type 0} (entries : P → List Entry) (arguments : P → List value
     (id : ℕ) (v : View) (at : get_elem? m.views id ≡ some v) (here : v.gone ≡ false) (may : MayClose v) where
   -- the desk that closes is desk 0
   at_zero : get_elem? m.views 0 ≡ some v
-  at_zero = ap (get_elem? m.views) (sym (whole.agrees.firsts.leads id v at may.idle.first)) ∙ at
+  at_zero = ap (get_elem? m.views) (sym (whole.agrees.firsts.leads id v at may.done.first)) ∙ at
 
   -- the counter is what that desk remembers of it
   count_is : m.count ≡ may.count
-  count_is = (whole.alone.alone v at_zero may.idle.lent).counter may.count may.counted
+  count_is = (whole.alone.alone v at_zero may.done.lent).counter may.count may.counted
 
   -- no cell is woken or ready, since it saw none that is
   none_asleep : AreAllAwake m.cells
   none_asleep i a = dite (dec_lt i may.count)
-      (λ l. let s = may.seen i l in s.2 (subst (λ (x : Word). IsAsleep x.cell) ((whole.alone.alone v at_zero may.idle.lent).cell i s.0 s.1) a))
+      (λ l. let s = may.seen i l in s.2 (subst (λ (x : Word). IsAsleep x.cell) ((whole.alone.alone v at_zero may.done.lent).cell i s.0 s.1) a))
       (λ far. let e = count_is in
       subst (λ (x : Word). IsAsleep x.cell) (no_entry_blank entries arguments keeps_to p n m u whole.agrees.stands i (what_none i u.journal (past_below p u.journal i whole.agrees.stands.keeping.merged.past (let k = whole.agrees.stands.keeping.long in omega arith)))) a)
 
   -- the journal of the table is complete where the desk knows that nothing is left to do
   pub closing : AreQuiet p v.kept → IsFinal p u.journal
-  closing = closing_awake entries arguments keeps_to p n any small m u whole id v at here may.idle none_asleep
+  closing = closing_awake entries arguments keeps_to p n any small m u whole id v at here may.done none_asleep

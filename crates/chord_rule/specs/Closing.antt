@@ -29,7 +29,7 @@ IsAsleep (a_cell.Woken x) = Unit {0}
 IsAsleep a_cell.Ready = Unit {0}
 IsAsleep _ = ⊥
 
--- the desk has nothing to do: it is the first one, it drew the beginning of `Main`, it has lent no desk, and it has no duty, no claim and no message that is not armed
+-- the first desk, which drew the beginning of `Main`, has nothing to do: it has lent no desk, and has no duty, no claim and no message that is not armed
 pub record HasNothingToDo (v : View) : Type 0 where
   pub first : v.first ≡ true
   pub begun : v.drawn ≡ true
@@ -42,9 +42,9 @@ pub record HasNothingToDo (v : View) : Type 0 where
 abbrev pub AreAllAwake : (ℕ → Word) → Type 0
 AreAllAwake cells = (i : ℕ) → IsAsleep (cell_of cells i) → ⊥
 
--- the desk knows that nothing is left to do: it has nothing to do, looked at the counter and at each cell below, and no cell was woken or ready
+-- the desk knows that nothing is left to do: it has nothing to do itself, looked at the counter and at each cell below, and no cell was woken or ready
 pub record MayClose (v : View) : Type 0 where
-  pub idle : HasNothingToDo v
+  pub done : HasNothingToDo v
   pub count : ℕ
   pub counted : v.looked.count ≡ Some count
   pub seen : (i : ℕ) → i < count → (x : Word) × LastSeen i x v.looked.seen × (IsAsleep x.cell → ⊥)
