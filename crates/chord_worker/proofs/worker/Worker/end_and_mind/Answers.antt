@@ -1,4 +1,5 @@
-use Rattle.std.proofs.Common.{◌≡◌, Option, Some, None, refl, sym, ap, ◌∙◌, subst, inl, inr, vec_len, Vec, Global}
+use Rattle.std.specs.Prelude.{IfSome}
+use Rattle.std.proofs.Common.{◌≡◌, Option, Some, None, refl, sym, ap, ◌∙◌, subst, inl, inr, vec_len, Vec, Global, ℕ}
 use Rattle.chord_base.specs.declared.event.End.{End}
 use Rattle.chord_base.specs.declared.event.End.TheVariants.{Gives}
 use Rattle.chord_base.specs.declared.event.What.TheVariants.{Ended}
@@ -16,15 +17,17 @@ use Rattle.chord_task.specs.Turning.{HasCome}
 use Rattle.chord_vm.specs.declared.ask.Ask.{Ask}
 use Rattle.chord_vm.specs.declared.ask.Ask.TheVariants as ask
 use Rattle.chord_vm.specs.Frames.{what_of_ask}
-use Rattle.chord_worker.specs.Playing.{DrawsOne, HeardOfLimit, IsNotedFrom}
+use Rattle.chord_worker.specs.Playing.{DrawsOne, HeardOfLimit, IsNotedAs, IsNotedFrom}
 use Rattle.chord_worker.specs.Resting.{IsAtRest, IsSameRole}
 use Rattle.chord_worker.specs.Stepping.{DrewEnd, WasMinded}
 use Rattle.chord_worker.proofs.Attending.{role_on}
-use Rattle.chord_worker.proofs.Drawn.{last_drew, none_drew}
+use Rattle.chord_worker.proofs.Drawn.{was_noted, last_drew, none_drew}
 use Rattle.chord_worker.proofs.Ended.{ended_minds, ended_told, rest_stocked, stays_stocked}
 use Rattle.chord_worker.proofs.Given.{value_of_some, where_none}
 use Rattle.chord_worker.proofs.Resting.{role_noted, role_told}
 use Rattle.chord_worker.proofs.Stepping.{minded_as}
+use Rattle.chord_worker.proofs.worker.Worker.end_and_mind.Given.{Over}
+use Rattle.chord_worker.proofs.worker.Worker.end_and_mind.Goals.{After-draw_own}
 use Rattle.chord_worker.proofs.worker.Worker.end_and_mind.Goals as goal
 
 pub draw_own-requires-clause-came : goal.draw_own-requires-clause-came
@@ -34,12 +37,18 @@ draw_own-requires-clause-came g c = λ a e.
     let same : ask.End (Gives a_value.Unit) ≡ a = cc in
     (c.args.task, subst (λ (b : Ask). HasCome (space_code s) (space_limits s) c.args.task c.args.task (what_of_ask b)) same c.requires.came, c.requires.minds.memory)
 
+-- the end that was drawn is an entry
+module _ (g : Over) (c : After-draw_own g) where
+  noted_here : {number : Option ℕ} {n : ℕ} → number ≡ Some n → IfSome number (IsNotedFrom c.args.space.now (view c.args.self.now.desk) (view c.draw_own.new.desk) c.replace.new.dest c.args.task c.draw_own.new.task)
+      → IsNotedAs (space_code c.args.space.now) (space_limits c.args.space.now) (view c.args.self.now.desk) (view c.draw_own.new.desk) c.args.task c.draw_own.new.task n (Ended (Gives a_value.Unit))
+  noted_here is each = was_noted c.args.space.now (view c.args.self.now.desk) (view c.draw_own.new.desk) c.replace.new.dest c.args.task c.draw_own.new.task _ _ is each (ask.End (Gives a_value.Unit)) c.args.task c.replace.ensures.after c.requires.came
+
 pub mind-requires-clause-minds : goal.mind-requires-clause-minds
 mind-requires-clause-minds g c =
     let s = c.args.space.now in
     let w = c.args.self.now in
     let n = c.in-Some.field-0 in
-    let noted = value_of_some _ n (IsNotedFrom s (view w.desk) (view c.draw_own.new.desk) c.replace.new.dest c.args.task c.draw_own.new.task) c.in-Some.is c.in_ok-draw_own.ensures.noted (ask.End (Gives a_value.Unit)) c.args.task c.replace.ensures.after c.requires.came in
+    let noted = noted_here g (goal.at.mind-requires-clause-minds g c).After-draw_own c.in-Some.is c.in_ok-draw_own.ensures.noted in
     let top = value_of_some _ n (λ _. (e : End) → c.replace.new.dest ≡ Some (ask.End e) → vec_len c.args.task.below ≡ 0 → c.draw_own.new.task.top ≡ None) c.in-Some.is c.in_ok-draw_own.ensures.over (Gives a_value.Unit) c.replace.ensures.after c.requires.alone in
     ended_minds s w c.args.task c.args.message.number (key c.args.message.object c.args.message.method) c.requires.minds _ c.draw_own.ensures.desk c.draw_own.new.task n (Ended (Gives a_value.Unit)) noted (λ x xs. refl) (ap body_may_go top) refl refl c.requires.none
     (value_of_some _ n (λ _. DrawsOne (view w.desk).draws (view c.draw_own.new.desk).draws w.draws.items c.draw_own.new.draws.items) c.in-Some.is c.in_ok-draw_own.ensures.listed) refl
@@ -47,9 +56,7 @@ mind-requires-clause-minds g c =
 pub returns-in_ok-mind-in-Some-clause-over : goal.returns-in_ok-mind-in-Some-clause-over
 returns-in_ok-mind-in-Some-clause-over g c =
     let s = c.args.space.now in
-    let w = c.args.self.now in
-    let n = c.in-Some.field-0 in
-    let noted = value_of_some _ n (IsNotedFrom s (view w.desk) (view c.draw_own.new.desk) c.replace.new.dest c.args.task c.draw_own.new.task) c.in-Some.is c.in_ok-draw_own.ensures.noted (ask.End (Gives a_value.Unit)) c.args.task c.replace.ensures.after c.requires.came in
+    let noted = noted_here g (goal.at.returns-in_ok-mind-in-Some-clause-over g c).After-draw_own c.in-Some.is c.in_ok-draw_own.ensures.noted in
     let r = c.in_ok-mind-in-Some.ensures.over in
     let stock = c.retire.ensures.stock (space_code s) (space_limits s) noted.task r.0.stock in (
       subst (IsAtRest s) (sym c.retire.ensures.rest) (rest_stocked s c.mind.new.self c.retire.new.self.spare stock r.0),
@@ -67,17 +74,14 @@ returns-in_ok-mind-in-Some-clause-role g c =
     let s = c.args.space.now in
     let w = c.args.self.now in
     let n = c.in-Some.field-0 in
-    let noted = value_of_some _ n (IsNotedFrom s (view w.desk) (view c.draw_own.new.desk) c.replace.new.dest c.args.task c.draw_own.new.task) c.in-Some.is c.in_ok-draw_own.ensures.noted (ask.End (Gives a_value.Unit)) c.args.task c.replace.ensures.after c.requires.came in
+    let noted = noted_here g (goal.at.returns-in_ok-mind-in-Some-clause-role g c).After-draw_own c.in-Some.is c.in_ok-draw_own.ensures.noted in
     let here = role_noted (space_code s) (space_limits s) (view w.desk) (view c.draw_own.new.desk) c.args.task c.draw_own.new.task n (Ended (Gives a_value.Unit)) noted in
     role_on (view w.desk) (view c.draw_own.new.desk) (view c.retire.new.self.desk) here
     (subst (λ (d : Desk Parcel). IsSameRole (view c.draw_own.new.desk) (view d)) (sym c.retire.ensures.same.0) c.in_ok-mind-in-Some.ensures.role)
 
 pub returns-in_ok-mind-in-Some-clause-minded : goal.returns-in_ok-mind-in-Some-clause-minded
 returns-in_ok-mind-in-Some-clause-minded g c =
-    let s = c.args.space.now in
-    let w = c.args.self.now in
-    let n = c.in-Some.field-0 in
-    let noted = value_of_some _ n (IsNotedFrom s (view w.desk) (view c.draw_own.new.desk) c.replace.new.dest c.args.task c.draw_own.new.task) c.in-Some.is c.in_ok-draw_own.ensures.noted (ask.End (Gives a_value.Unit)) c.args.task c.replace.ensures.after c.requires.came in
+    let noted = noted_here g (goal.at.returns-in_ok-mind-in-Some-clause-minded g c).After-draw_own c.in-Some.is c.in_ok-draw_own.ensures.noted in
     let es = (view c.draw_own.new.desk).kept in (
       es,
       (λ e i. subst (IsIn e) (sym (ap (λ (z : View). z.kept) noted.drawn)) (inr i)),

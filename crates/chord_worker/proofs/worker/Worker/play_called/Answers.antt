@@ -1,3 +1,4 @@
+use Rattle.std.specs.Prelude.{IfSome}
 use Rattle.std.proofs.Common.{◌≡◌, ℕ, ◌<◌, Bool, Some, List, ◌∷◌, Option, refl, sym, ap, ◌∙◌, subst, inl, inr, arith, Vec, Global}
 use Rattle.chord_base.specs.declared.event.Entry.{Entry}
 use Rattle.chord_base.specs.declared.event.What.TheVariants.{Called}
@@ -13,15 +14,17 @@ use Rattle.chord_space.specs.Desks.{view, space_code, space_limits, IsSameDesk}
 use Rattle.chord_task.specs.declared.parcel.Opened.{Opened as Parcel}
 use Rattle.chord_task.specs.declared.task.Task.{Task}
 use Rattle.chord_task.specs.Standing.{view_of}
-use Rattle.chord_worker.specs.Playing.{DrawsOne, HeardOfLimit, IsNotedFrom}
+use Rattle.chord_worker.specs.Playing.{DrawsOne, HeardOfLimit, IsNotedAs, IsNotedFrom}
 use Rattle.chord_worker.proofs.Given.{only_ask, value_of_some, where_none}
 use Rattle.chord_worker.specs.Resting.{IsInMemory, MayContinue}
 use Rattle.chord_worker.proofs.Resting.{rest_told}
 use Rattle.chord_worker.proofs.Attending.{role_on}
-use Rattle.chord_worker.proofs.Drawn.{step_drew, none_drew}
+use Rattle.chord_worker.proofs.Drawn.{was_noted, step_drew, none_drew}
 use Rattle.chord_worker.proofs.Sent.{task_may, task_left, task_memory, now_minds, minds_role}
 use Rattle.chord_worker.proofs.Stepping.{went_called, plays_minded, gone_on, plays_next}
 use Rattle.chord_worker.specs.Stepping.{PlaysNoOther, WasMinded}
+use Rattle.chord_worker.proofs.worker.Worker.play_called.Given.{Over}
+use Rattle.chord_worker.proofs.worker.Worker.play_called.Goals.{After-draw_own}
 use Rattle.chord_worker.proofs.worker.Worker.play_called.Goals as goal
 
 pub draw_own-requires-clause-came : goal.draw_own-requires-clause-came
@@ -34,18 +37,24 @@ draw_own-requires-clause-came g c = λ a e.
       subst (λ (b : Bool). IsInMemory (space_code s) (space_limits s) (view w.desk).kept b (Some c.requires.came.0)) c.requires.room c.requires.came.2.memory,
     )
 
+-- the message that was drawn is an entry
+module _ (g : Over) (c : After-draw_own g) where
+  noted_here : {number : Option ℕ} {n : ℕ} → number ≡ Some n → IfSome number (IsNotedFrom c.args.space.now (view c.args.self.now.desk) (view c.draw_own.new.desk) c.args.asked.now c.args.task c.draw_own.new.task)
+      → IsNotedAs (space_code c.args.space.now) (space_limits c.args.space.now) (view c.args.self.now.desk) (view c.draw_own.new.desk) c.requires.came.0 c.draw_own.new.task n (Called c.args.object c.args.method c.args.held.first)
+  noted_here is each = was_noted c.args.space.now (view c.args.self.now.desk) (view c.draw_own.new.desk) c.args.asked.now c.args.task c.draw_own.new.task _ _ is each (ask.Call c.args.object c.args.method c.args.held.first) c.requires.came.0 c.requires.asked c.requires.came.1
+
 pub send_task-requires-clause-bounds : goal.send_task-requires-clause-bounds
-send_task-requires-clause-bounds g c = ((value_of_some _ c.in-Some.number (λ (n : ℕ). n < c.args.space.now.events) c.in-Some.is c.in_ok-number.ensures.within), (value_of_some _ c.in-Some.number (IsNotedFrom c.args.space.now (view c.args.self.now.desk) (view c.draw_own.new.desk) c.args.asked.now c.args.task c.draw_own.new.task) c.in-Some.is c.in_ok-number.ensures.noted (ask.Call c.args.object c.args.method c.args.held.first) c.requires.came.0 c.requires.asked c.requires.came.1).named c.args.object (inl refl))
+send_task-requires-clause-bounds g c = ((value_of_some _ c.in-Some.number (λ (n : ℕ). n < c.args.space.now.events) c.in-Some.is c.in_ok-number.ensures.within), (noted_here g (goal.at.send_task-requires-clause-bounds g c).After-draw_own c.in-Some.is c.in_ok-number.ensures.noted).named c.args.object (inl refl))
 
 pub send_task-requires-clause-link : goal.send_task-requires-clause-link
 send_task-requires-clause-link g c =
     let s = c.args.space.now in
-    task_may s c.args.self.now c.requires.came.0 c.requires.came.2 c.draw_own.new.task c.in-Some.number (view c.draw_own.new.desk) c.args.object c.args.method c.args.held.first (value_of_some _ c.in-Some.number (IsNotedFrom c.args.space.now (view c.args.self.now.desk) (view c.draw_own.new.desk) c.args.asked.now c.args.task c.draw_own.new.task) c.in-Some.is c.in_ok-number.ensures.noted (ask.Call c.args.object c.args.method c.args.held.first) c.requires.came.0 c.requires.asked c.requires.came.1)
+    task_may s c.args.self.now c.requires.came.0 c.requires.came.2 c.draw_own.new.task c.in-Some.number (view c.draw_own.new.desk) c.args.object c.args.method c.args.held.first (noted_here g (goal.at.send_task-requires-clause-link g c).After-draw_own c.in-Some.is c.in_ok-number.ensures.noted)
 
 pub mind-requires-clause-bounds : goal.mind-requires-clause-bounds
 mind-requires-clause-bounds g c =
     let low = (value_of_some _ c.in-Some.number (λ (n : ℕ). n < c.args.space.now.events) c.in-Some.is c.in_ok-number.ensures.within) in
-    let named = (value_of_some _ c.in-Some.number (IsNotedFrom c.args.space.now (view c.args.self.now.desk) (view c.draw_own.new.desk) c.args.asked.now c.args.task c.draw_own.new.task) c.in-Some.is c.in_ok-number.ensures.noted (ask.Call c.args.object c.args.method c.args.held.first) c.requires.came.0 c.requires.asked c.requires.came.1).named c.args.object (inl refl) in
+    let named = (noted_here g (goal.at.mind-requires-clause-bounds g c).After-draw_own c.in-Some.is c.in_ok-number.ensures.noted).named c.args.object (inl refl) in
     (low, (omega (arith, low, named)), c.send_task.ensures.bounds.0, c.send_task.ensures.bounds.1)
 
 pub mind-requires-clause-minds : goal.mind-requires-clause-minds
@@ -54,7 +63,7 @@ mind-requires-clause-minds g c =
     let w = c.args.self.now in
     let w' = record w { desk = c.send_task.new.desk; draws = c.draw_own.new.draws } in
     let what = Called c.args.object c.args.method c.args.held.first in
-    let noted = (value_of_some _ c.in-Some.number (IsNotedFrom c.args.space.now (view c.args.self.now.desk) (view c.draw_own.new.desk) c.args.asked.now c.args.task c.draw_own.new.task) c.in-Some.is c.in_ok-number.ensures.noted (ask.Call c.args.object c.args.method c.args.held.first) c.requires.came.0 c.requires.asked c.requires.came.1) in
+    let noted = noted_here g (goal.at.mind-requires-clause-minds g c).After-draw_own c.in-Some.is c.in_ok-number.ensures.noted in
     let k = key c.args.object c.args.method in
     let v = view c.draw_own.new.desk in
     let sent = c.send_task.ensures.sent in
@@ -78,7 +87,7 @@ returns-in-None-clause-rest g c =
 
 pub returns-in_ok-mind-in-Some-clause-went : goal.returns-in_ok-mind-in-Some-clause-went
 returns-in_ok-mind-in-Some-clause-went g c =
-    let noted = (value_of_some _ c.in-Some.number (IsNotedFrom c.args.space.now (view c.args.self.now.desk) (view c.draw_own.new.desk) c.args.asked.now c.args.task c.draw_own.new.task) c.in-Some.is c.in_ok-number.ensures.noted (ask.Call c.args.object c.args.method c.args.held.first) c.requires.came.0 c.requires.asked c.requires.came.1) in
+    let noted = noted_here g (goal.at.returns-in_ok-mind-in-Some-clause-went g c).After-draw_own c.in-Some.is c.in_ok-number.ensures.noted in
     let x = entry c.in-Some.number noted.body (Called c.args.object c.args.method c.args.held.first) in
     let es = (view c.send_task.new.desk).kept in
     let gone = ap (λ (ps : List Entry). left_by ps (view c.draw_own.new.desk).kept) noted.past in
@@ -93,7 +102,7 @@ returns-in-None-clause-went g c = inr (inr (ap (λ (x : Desk Parcel). (view x).s
 pub returns-in_ok-mind-in-Some-clause-plays : goal.returns-in_ok-mind-in-Some-clause-plays
 returns-in_ok-mind-in-Some-clause-plays g c =
     plays_next g.G.Gate.knows (view c.args.self.now.desk).kept c.args.task c.requires.came.0 c.mind.new.self (sym c.requires.came.1.view)
-    (plays_minded g.G.Gate.knows (view c.args.self.now.desk).kept (view c.send_task.new.desk).kept c.requires.came.0 c.in-Some.number c.args.self.now.task c.mind.new.self (value_of_some _ c.in-Some.number (IsNotedFrom c.args.space.now (view c.args.self.now.desk) (view c.draw_own.new.desk) c.args.asked.now c.args.task c.draw_own.new.task) c.in-Some.is c.in_ok-number.ensures.noted (ask.Call c.args.object c.args.method c.args.held.first) c.requires.came.0 c.requires.asked c.requires.came.1).below
+    (plays_minded g.G.Gate.knows (view c.args.self.now.desk).kept (view c.send_task.new.desk).kept c.requires.came.0 c.in-Some.number c.args.self.now.task c.mind.new.self (noted_here g (goal.at.returns-in_ok-mind-in-Some-clause-plays g c).After-draw_own c.in-Some.is c.in_ok-number.ensures.noted).below
     (subst (PlaysNoOther c.requires.came.0) (sym c.requires.none) tt)
     (λ told. c.in_ok-mind-in-Some.ensures.over.1 (c.in_ok-mind-in-Some.ensures.over.0.told ∙ told)) c.in_ok-mind-in-Some.ensures.minded)
 
@@ -101,13 +110,13 @@ pub returns-in-None-clause-plays : goal.returns-in-None-clause-plays
 returns-in-None-clause-plays g c = inl (subst (PlaysNoOther c.args.task) (sym (c.lay_down.ensures.same.2 ∙ c.requires.none)) tt)
 
 pub send_task-requires-clause-task : goal.send_task-requires-clause-task
-send_task-requires-clause-task g c = (value_of_some _ c.in-Some.number (IsNotedFrom c.args.space.now (view c.args.self.now.desk) (view c.draw_own.new.desk) c.args.asked.now c.args.task c.draw_own.new.task) c.in-Some.is c.in_ok-number.ensures.noted (ask.Call c.args.object c.args.method c.args.held.first) c.requires.came.0 c.requires.asked c.requires.came.1).task
+send_task-requires-clause-task g c = (noted_here g (goal.at.send_task-requires-clause-task g c).After-draw_own c.in-Some.is c.in_ok-number.ensures.noted).task
 
 pub send_task-requires-clause-left : goal.send_task-requires-clause-left
-send_task-requires-clause-left g c = task_left c.args.space.now c.args.self.now c.requires.came.0 c.requires.came.2 c.draw_own.new.task c.in-Some.number (view c.draw_own.new.desk) c.args.object c.args.method c.args.held.first (value_of_some _ c.in-Some.number (IsNotedFrom c.args.space.now (view c.args.self.now.desk) (view c.draw_own.new.desk) c.args.asked.now c.args.task c.draw_own.new.task) c.in-Some.is c.in_ok-number.ensures.noted (ask.Call c.args.object c.args.method c.args.held.first) c.requires.came.0 c.requires.asked c.requires.came.1)
+send_task-requires-clause-left g c = task_left c.args.space.now c.args.self.now c.requires.came.0 c.requires.came.2 c.draw_own.new.task c.in-Some.number (view c.draw_own.new.desk) c.args.object c.args.method c.args.held.first (noted_here g (goal.at.send_task-requires-clause-left g c).After-draw_own c.in-Some.is c.in_ok-number.ensures.noted)
 
 pub send_task-requires-clause-named : goal.send_task-requires-clause-named
-send_task-requires-clause-named g c = (value_of_some _ c.in-Some.number (IsNotedFrom c.args.space.now (view c.args.self.now.desk) (view c.draw_own.new.desk) c.args.asked.now c.args.task c.draw_own.new.task) c.in-Some.is c.in_ok-number.ensures.noted (ask.Call c.args.object c.args.method c.args.held.first) c.requires.came.0 c.requires.asked c.requires.came.1).of_code
+send_task-requires-clause-named g c = (noted_here g (goal.at.send_task-requires-clause-named g c).After-draw_own c.in-Some.is c.in_ok-number.ensures.noted).of_code
 
 pub returns-in_ok-mind-in-Some-clause-role : goal.returns-in_ok-mind-in-Some-clause-role
 returns-in_ok-mind-in-Some-clause-role g c =
@@ -115,7 +124,7 @@ returns-in_ok-mind-in-Some-clause-role g c =
     let w = c.args.self.now in
     let w' = record w { desk = c.send_task.new.desk; draws = c.draw_own.new.draws } in
     let what = Called c.args.object c.args.method c.args.held.first in
-    let noted = (value_of_some _ c.in-Some.number (IsNotedFrom c.args.space.now (view c.args.self.now.desk) (view c.draw_own.new.desk) c.args.asked.now c.args.task c.draw_own.new.task) c.in-Some.is c.in_ok-number.ensures.noted (ask.Call c.args.object c.args.method c.args.held.first) c.requires.came.0 c.requires.asked c.requires.came.1) in
+    let noted = noted_here g (goal.at.returns-in_ok-mind-in-Some-clause-role g c).After-draw_own c.in-Some.is c.in_ok-number.ensures.noted in
     let k = key c.args.object c.args.method in
     let v = view c.draw_own.new.desk in
     let sent = c.send_task.ensures.sent in

@@ -1,4 +1,5 @@
-use Rattle.std.proofs.Common.{◌≡◌, Bool, Some, refl, sym, ap, subst, ◌∙◌, inl, inr, Vec, Global}
+use Rattle.std.specs.Prelude.{IfSome}
+use Rattle.std.proofs.Common.{◌≡◌, ℕ, Bool, Option, Some, refl, sym, ap, subst, ◌∙◌, inl, inr, Vec, Global}
 use Rattle.chord_base.specs.declared.event.Entry.{Entry}
 use Rattle.chord_base.specs.Story.{IsIn}
 use Rattle.chord_rule.specs.declared.view.View.{View}
@@ -6,19 +7,30 @@ use Rattle.chord_rule.specs.Kinds.{entry}
 use Rattle.chord_space.specs.declared.space.Desk.{Desk}
 use Rattle.chord_space.specs.Desks.{view, space_code, space_limits, IsSameDesk}
 use Rattle.chord_task.specs.declared.parcel.Opened.{Opened as Parcel}
+use Rattle.chord_vm.specs.declared.ask.Ask.{Ask}
 use Rattle.chord_vm.specs.Frames.{what_of_ask}
 use Rattle.chord_worker.specs.Playing.{DrawsOne, IsNotedAs, IsNotedFrom, HeardOfLimit}
 use Rattle.chord_worker.specs.Resting.{IsInMemory}
 use Rattle.chord_worker.proofs.Given.{some_ask, value_of_some, where_none}
-use Rattle.chord_worker.proofs.Drawn.{step_drew, none_drew}
+use Rattle.chord_worker.proofs.Drawn.{was_noted, step_drew, none_drew}
 use Rattle.chord_worker.proofs.Resting.{rest_noted, role_noted, rest_told, role_told}
 use Rattle.chord_worker.specs.Stepping.{PlaysNoOther}
 use Rattle.chord_worker.proofs.Stepping.{newest_is_kept, no_other, still_no_other}
+use Rattle.chord_worker.proofs.worker.Worker.play_own.Goals.{After-draw_own}
 use Rattle.chord_worker.proofs.worker.Worker.play_own.Goals as goal
 
 pub draw_own-requires-clause-came : goal.draw_own-requires-clause-came
 draw_own-requires-clause-came c = λ a e. let y = c.requires.came a e in
     (y.0, y.1, subst (λ (b : Bool). IsInMemory (space_code c.args.space.now) (space_limits c.args.space.now) (view c.args.self.now.desk).kept b (Some y.0)) c.requires.room y.2.memory)
+
+-- the ask that was drawn is an entry
+module _ (c : After-draw_own) where
+  abbrev ask_here : (a : Ask) × (c.args.asked.now ≡ Some a)
+  ask_here = some_ask c.args.asked.now c.requires.some
+
+  noted_here : {number : Option ℕ} {n : ℕ} → number ≡ Some n → IfSome number (IsNotedFrom c.args.space.now (view c.args.self.now.desk) (view c.draw_own.new.desk) c.args.asked.now c.args.task c.draw_own.new.task)
+      → IsNotedAs (space_code c.args.space.now) (space_limits c.args.space.now) (view c.args.self.now.desk) (view c.draw_own.new.desk) (c.requires.came ask_here.0 ask_here.1).0 c.draw_own.new.task n (what_of_ask ask_here.0)
+  noted_here is each = let came = c.requires.came ask_here.0 ask_here.1 in was_noted c.args.space.now (view c.args.self.now.desk) (view c.draw_own.new.desk) c.args.asked.now c.args.task c.draw_own.new.task _ _ is each ask_here.0 came.0 ask_here.1 came.1
 
 pub returns-in-Some-clause-rest : goal.returns-in-Some-clause-rest
 returns-in-Some-clause-rest c =
@@ -27,7 +39,7 @@ returns-in-Some-clause-rest c =
     let a = some_ask c.args.asked.now c.requires.some in
     let y = c.requires.came a.0 a.1 in
     let n = c.in-Some.field-0 in
-    let noted = value_of_some _ n (IsNotedFrom s (view w.desk) (view c.draw_own.new.desk) c.args.asked.now c.args.task c.draw_own.new.task) c.in-Some.is c.in_ok-draw_own.ensures.noted a.0 y.0 a.1 y.1 in
+    let noted = noted_here (goal.at.returns-in-Some-clause-rest c).After-draw_own c.in-Some.is c.in_ok-draw_own.ensures.noted in
     let d = c.settle.ensures.same.0 in
     let moved = subst (λ (x : Desk Parcel). IsNotedAs (space_code s) (space_limits s) (view w.desk) (view x) y.0 c.draw_own.new.task n (what_of_ask a.0)) (sym d) noted in
     let same = subst (λ (x : Desk Parcel). IsSameDesk w.desk x) (sym d) c.draw_own.ensures.desk in
@@ -46,10 +58,9 @@ returns-in-Some-clause-role c =
     let a = some_ask c.args.asked.now c.requires.some in
     let y = c.requires.came a.0 a.1 in
     let n = c.in-Some.field-0 in
-    let noted = value_of_some _ n (IsNotedFrom s (view w.desk) (view c.draw_own.new.desk) c.args.asked.now c.args.task c.draw_own.new.task) c.in-Some.is c.in_ok-draw_own.ensures.noted a.0 y.0 a.1 y.1 in
+    let noted = noted_here (goal.at.returns-in-Some-clause-role c).After-draw_own c.in-Some.is c.in_ok-draw_own.ensures.noted in
     let d = c.settle.ensures.same.0 in
     let moved = subst (λ (x : Desk Parcel). IsNotedAs (space_code s) (space_limits s) (view w.desk) (view x) y.0 c.draw_own.new.task n (what_of_ask a.0)) (sym d) noted in
-    let same = subst (λ (x : Desk Parcel). IsSameDesk w.desk x) (sym d) c.draw_own.ensures.desk in
     role_noted (space_code s) (space_limits s) (view w.desk) (view c.settle.new.self.desk) y.0 c.draw_own.new.task n (what_of_ask a.0) moved
 
 pub returns-in-None-clause-rest : goal.returns-in-None-clause-rest
@@ -68,46 +79,35 @@ returns-in-None-clause-rest c =
 
 pub returns-in-None-clause-role : goal.returns-in-None-clause-role
 returns-in-None-clause-role c =
-    let s = c.args.space.now in
     let w = c.args.self.now in
-    let a = some_ask c.args.asked.now c.requires.some in
-    let y = c.requires.came a.0 a.1 in
     let told = where_none _ (HeardOfLimit (view w.desk) (view c.draw_own.new.desk)) c.in-None.is c.in_ok-draw_own.ensures.told in
     let d = c.lay_down.ensures.same.0 in
     let moved = subst (λ (x : Desk Parcel). HeardOfLimit (view w.desk) (view x)) (sym d) told in
-    let same = subst (λ (x : Desk Parcel). IsSameDesk w.desk x) (sym d) c.draw_own.ensures.desk in
     role_told (view w.desk) (view c.lay_down.new.self.desk) moved
 
 pub returns-in-Some-clause-went : goal.returns-in-Some-clause-went
 returns-in-Some-clause-went c =
-    let s = c.args.space.now in
     let w = c.args.self.now in
     let a = some_ask c.args.asked.now c.requires.some in
-    let y = c.requires.came a.0 a.1 in
     let n = c.in-Some.field-0 in
-    let noted = value_of_some _ n (IsNotedFrom s (view w.desk) (view c.draw_own.new.desk) c.args.asked.now c.args.task c.draw_own.new.task) c.in-Some.is c.in_ok-draw_own.ensures.noted a.0 y.0 a.1 y.1 in
+    let noted = noted_here (goal.at.returns-in-Some-clause-went c).After-draw_own c.in-Some.is c.in_ok-draw_own.ensures.noted in
     let kept = ap (λ (x : Desk Parcel). (view x).kept) c.settle.ensures.same.0 ∙ ap (λ (z : View). z.kept) noted.drawn in
     let x = entry n noted.body (what_of_ask a.0) in
     inl (newest_is_kept (view w.desk).kept c.args.task n x refl noted.below c.settle.new.self (subst (IsIn x) (sym kept) (inl refl)))
 
 pub returns-in-None-clause-went : goal.returns-in-None-clause-went
 returns-in-None-clause-went c =
-    let s = c.args.space.now in
     let w = c.args.self.now in
-    let a = some_ask c.args.asked.now c.requires.some in
-    let y = c.requires.came a.0 a.1 in
     let told = where_none _ (HeardOfLimit (view w.desk) (view c.draw_own.new.desk)) c.in-None.is c.in_ok-draw_own.ensures.told in
     let d = c.lay_down.ensures.same.0 in
     inr (inr (ap (λ (x : Desk Parcel). (view x).spent) d ∙ ap (λ (z : View). z.spent) told.1))
 
 pub returns-in-Some-clause-plays : goal.returns-in-Some-clause-plays
 returns-in-Some-clause-plays c =
-    let s = c.args.space.now in
-    let w = c.args.self.now in
     let a = some_ask c.args.asked.now c.requires.some in
     let y = c.requires.came a.0 a.1 in
     let n = c.in-Some.field-0 in
-    let noted = value_of_some _ n (IsNotedFrom s (view w.desk) (view c.draw_own.new.desk) c.args.asked.now c.args.task c.draw_own.new.task) c.in-Some.is c.in_ok-draw_own.ensures.noted a.0 y.0 a.1 y.1 in
+    let noted = noted_here (goal.at.returns-in-Some-clause-plays c).After-draw_own c.in-Some.is c.in_ok-draw_own.ensures.noted in
     still_no_other c.args.task y.0 c.settle.new.self.task (sym y.1.view) (no_other y.0 c.draw_own.new.task (entry n noted.body (what_of_ask a.0)) c.settle.new.self.task noted.past c.settle.ensures.task)
 
 pub returns-in-None-clause-plays : goal.returns-in-None-clause-plays

@@ -1,4 +1,5 @@
-use Rattle.std.proofs.Common.{◌≡◌, ℕ, ◌<◌, Bool, Some, None, [], refl, sym, ap, ◌∙◌, subst, inl, inr, arith, Vec, Global}
+use Rattle.std.specs.Prelude.{IfSome}
+use Rattle.std.proofs.Common.{◌≡◌, ℕ, ◌<◌, Bool, Some, None, [], refl, sym, ap, ◌∙◌, subst, inl, inr, arith, Vec, Global, Option}
 use Rattle.chord_base.specs.declared.event.Entry.{Entry}
 use Rattle.chord_base.specs.declared.event.End.TheVariants.{Gives}
 use Rattle.chord_base.specs.declared.event.What.TheVariants.{Sent, Ended}
@@ -14,18 +15,20 @@ use Rattle.chord_rule.specs.Made.{key}
 use Rattle.chord_space.specs.declared.space.Desk.{Desk}
 use Rattle.chord_space.specs.Desks.{view, space_code, space_limits, IsSameDesk}
 use Rattle.chord_task.specs.declared.parcel.Opened.{Opened as Parcel}
-use Rattle.chord_worker.specs.Playing.{DrawsOne, HeardOfLimit, IsNotedFrom}
+use Rattle.chord_worker.specs.Playing.{DrawsOne, HeardOfLimit, IsNotedAs, IsNotedFrom}
 use Rattle.chord_task.proofs.Turning.{runs_ready}
 use Rattle.chord_worker.proofs.Given.{only_ask, value_of_some, where_none, came_runs}
 use Rattle.chord_worker.specs.Sending.{IsSentOff}
 use Rattle.chord_worker.specs.Resting.{IsInMemory}
 use Rattle.chord_worker.proofs.Resting.{rest_told}
 use Rattle.chord_worker.proofs.Attending.{role_on}
-use Rattle.chord_worker.proofs.Drawn.{step_drew, none_drew}
+use Rattle.chord_worker.proofs.Drawn.{was_noted, step_drew, none_drew}
 use Rattle.chord_worker.proofs.Sent.{letter_may, letter_memory, now_minds, minds_role}
 use Rattle.chord_worker.proofs.Parts.{all_kept}
 use Rattle.chord_worker.specs.Stepping.{PlaysNoOther}
 use Rattle.chord_worker.proofs.Stepping.{went_sent, no_other, plays_minded, gone_on, plays_next}
+use Rattle.chord_worker.proofs.worker.Worker.play_sent.Given.{Over}
+use Rattle.chord_worker.proofs.worker.Worker.play_sent.Goals.{After-draw_own}
 use Rattle.chord_worker.proofs.worker.Worker.play_sent.Goals as goal
 
 pub draw_own-requires-clause-came : goal.draw_own-requires-clause-came
@@ -38,18 +41,24 @@ draw_own-requires-clause-came g c = λ a e.
       subst (λ (b : Bool). IsInMemory (space_code s) (space_limits s) (view w.desk).kept b (Some c.requires.came.0)) c.requires.room c.requires.came.2.memory,
     )
 
+-- the message that was drawn is an entry
+module _ (g : Over) (c : After-draw_own g) where
+  noted_here : {number : Option ℕ} {n : ℕ} → number ≡ Some n → IfSome number (IsNotedFrom c.args.space.now (view c.args.self.now.desk) (view c.draw_own.new.desk) c.args.asked.now c.args.task c.draw_own.new.task)
+      → IsNotedAs (space_code c.args.space.now) (space_limits c.args.space.now) (view c.args.self.now.desk) (view c.draw_own.new.desk) c.requires.came.0 c.draw_own.new.task n (Sent c.args.object c.args.method c.args.held.first)
+  noted_here is each = was_noted c.args.space.now (view c.args.self.now.desk) (view c.draw_own.new.desk) c.args.asked.now c.args.task c.draw_own.new.task _ _ is each (ask.Send c.args.object c.args.method c.args.held.first) c.requires.came.0 c.requires.asked c.requires.came.1
+
 pub send_letter-requires-clause-bounds : goal.send_letter-requires-clause-bounds
-send_letter-requires-clause-bounds g c = ((value_of_some _ c.in-Some.number (λ (n : ℕ). n < c.args.space.now.events) c.in-Some.is c.in_ok-number.ensures.within), (value_of_some _ c.in-Some.number (IsNotedFrom c.args.space.now (view c.args.self.now.desk) (view c.draw_own.new.desk) c.args.asked.now c.args.task c.draw_own.new.task) c.in-Some.is c.in_ok-number.ensures.noted (ask.Send c.args.object c.args.method c.args.held.first) c.requires.came.0 c.requires.asked c.requires.came.1).named c.args.object (inl refl))
+send_letter-requires-clause-bounds g c = ((value_of_some _ c.in-Some.number (λ (n : ℕ). n < c.args.space.now.events) c.in-Some.is c.in_ok-number.ensures.within), (noted_here g (goal.at.send_letter-requires-clause-bounds g c).After-draw_own c.in-Some.is c.in_ok-number.ensures.noted).named c.args.object (inl refl))
 
 pub send_letter-requires-clause-link : goal.send_letter-requires-clause-link
 send_letter-requires-clause-link g c =
     let s = c.args.space.now in
-    letter_may s c.args.self.now c.requires.came.0 c.requires.came.2 c.draw_own.new.task c.in-Some.number (view c.draw_own.new.desk) c.args.object c.args.method c.args.held.first (value_of_some _ c.in-Some.number (IsNotedFrom c.args.space.now (view c.args.self.now.desk) (view c.draw_own.new.desk) c.args.asked.now c.args.task c.draw_own.new.task) c.in-Some.is c.in_ok-number.ensures.noted (ask.Send c.args.object c.args.method c.args.held.first) c.requires.came.0 c.requires.asked c.requires.came.1)
+    letter_may s c.args.self.now c.requires.came.0 c.requires.came.2 c.draw_own.new.task c.in-Some.number (view c.draw_own.new.desk) c.args.object c.args.method c.args.held.first (noted_here g (goal.at.send_letter-requires-clause-link g c).After-draw_own c.in-Some.is c.in_ok-number.ensures.noted)
 
 pub mind-requires-clause-bounds : goal.mind-requires-clause-bounds
 mind-requires-clause-bounds g c =
     let low = (value_of_some _ c.in-Some.number (λ (n : ℕ). n < c.args.space.now.events) c.in-Some.is c.in_ok-number.ensures.within) in
-    let named = (value_of_some _ c.in-Some.number (IsNotedFrom c.args.space.now (view c.args.self.now.desk) (view c.draw_own.new.desk) c.args.asked.now c.args.task c.draw_own.new.task) c.in-Some.is c.in_ok-number.ensures.noted (ask.Send c.args.object c.args.method c.args.held.first) c.requires.came.0 c.requires.asked c.requires.came.1).named c.args.object (inl refl) in
+    let named = (noted_here g (goal.at.mind-requires-clause-bounds g c).After-draw_own c.in-Some.is c.in_ok-number.ensures.noted).named c.args.object (inl refl) in
     (low, (omega (arith, low, named)), c.send_letter.ensures.bounds.0, c.send_letter.ensures.bounds.1)
 
 pub mind-requires-clause-minds : goal.mind-requires-clause-minds
@@ -59,7 +68,7 @@ mind-requires-clause-minds g c =
     let w' = c.settle.new.self in
     let d = c.settle.ensures.same.0 in
     let what = Sent c.args.object c.args.method c.args.held.first in
-    let noted = (value_of_some _ c.in-Some.number (IsNotedFrom c.args.space.now (view c.args.self.now.desk) (view c.draw_own.new.desk) c.args.asked.now c.args.task c.draw_own.new.task) c.in-Some.is c.in_ok-number.ensures.noted (ask.Send c.args.object c.args.method c.args.held.first) c.requires.came.0 c.requires.asked c.requires.came.1) in
+    let noted = noted_here g (goal.at.mind-requires-clause-minds g c).After-draw_own c.in-Some.is c.in_ok-number.ensures.noted in
     let k = key c.args.object c.args.method in
     let v = view c.draw_own.new.desk in
     let sent = subst (λ (x : Desk Parcel). IsSentOff v (view x) c.in-Some.number k []) (sym d) c.send_letter.ensures.sent in
@@ -84,7 +93,7 @@ returns-in-None-clause-rest g c =
 
 pub returns-in_ok-mind-in-Some-clause-went : goal.returns-in_ok-mind-in-Some-clause-went
 returns-in_ok-mind-in-Some-clause-went g c =
-    let noted = (value_of_some _ c.in-Some.number (IsNotedFrom c.args.space.now (view c.args.self.now.desk) (view c.draw_own.new.desk) c.args.asked.now c.args.task c.draw_own.new.task) c.in-Some.is c.in_ok-number.ensures.noted (ask.Send c.args.object c.args.method c.args.held.first) c.requires.came.0 c.requires.asked c.requires.came.1) in
+    let noted = noted_here g (goal.at.returns-in_ok-mind-in-Some-clause-went g c).After-draw_own c.in-Some.is c.in_ok-number.ensures.noted in
     let x = entry c.in-Some.number noted.body (Sent c.args.object c.args.method c.args.held.first) in
     let kept = ap (λ (d : Desk Parcel). (view d).kept) c.settle.ensures.same.0 ∙ c.send_letter.ensures.sent.kept ∙ all_kept (view c.draw_own.new.desk).kept ∙ ap (λ (z : View). z.kept) noted.drawn in
     gone_on (view c.args.self.now.desk).kept c.args.task c.requires.came.0 c.mind.new.self (sym c.requires.came.1.view)
@@ -95,7 +104,7 @@ returns-in-None-clause-went g c = inr (inr (ap (λ (x : Desk Parcel). (view x).s
 
 pub returns-in_ok-mind-in-Some-clause-plays : goal.returns-in_ok-mind-in-Some-clause-plays
 returns-in_ok-mind-in-Some-clause-plays g c =
-    let noted = (value_of_some _ c.in-Some.number (IsNotedFrom c.args.space.now (view c.args.self.now.desk) (view c.draw_own.new.desk) c.args.asked.now c.args.task c.draw_own.new.task) c.in-Some.is c.in_ok-number.ensures.noted (ask.Send c.args.object c.args.method c.args.held.first) c.requires.came.0 c.requires.asked c.requires.came.1) in
+    let noted = noted_here g (goal.at.returns-in_ok-mind-in-Some-clause-plays g c).After-draw_own c.in-Some.is c.in_ok-number.ensures.noted in
     let x = entry c.in-Some.number noted.body (Sent c.args.object c.args.method c.args.held.first) in
     plays_next g.G.Gate.knows (view c.args.self.now.desk).kept c.args.task c.requires.came.0 c.mind.new.self (sym c.requires.came.1.view)
     (plays_minded g.G.Gate.knows (view c.args.self.now.desk).kept (view c.settle.new.self.desk).kept c.requires.came.0 c.in-Some.number c.settle.new.self.task c.mind.new.self noted.below
@@ -106,7 +115,7 @@ pub returns-in-None-clause-plays : goal.returns-in-None-clause-plays
 returns-in-None-clause-plays g c = inl (subst (PlaysNoOther c.args.task) (sym (c.lay_down.ensures.same.2 ∙ c.requires.none)) tt)
 
 pub send_letter-requires-clause-named : goal.send_letter-requires-clause-named
-send_letter-requires-clause-named g c = (value_of_some _ c.in-Some.number (IsNotedFrom c.args.space.now (view c.args.self.now.desk) (view c.draw_own.new.desk) c.args.asked.now c.args.task c.draw_own.new.task) c.in-Some.is c.in_ok-number.ensures.noted (ask.Send c.args.object c.args.method c.args.held.first) c.requires.came.0 c.requires.asked c.requires.came.1).of_code
+send_letter-requires-clause-named g c = (noted_here g (goal.at.send_letter-requires-clause-named g c).After-draw_own c.in-Some.is c.in_ok-number.ensures.noted).of_code
 
 pub returns-in_ok-mind-in-Some-clause-role : goal.returns-in_ok-mind-in-Some-clause-role
 returns-in_ok-mind-in-Some-clause-role g c =
@@ -115,7 +124,7 @@ returns-in_ok-mind-in-Some-clause-role g c =
     let w' = c.settle.new.self in
     let d = c.settle.ensures.same.0 in
     let what = Sent c.args.object c.args.method c.args.held.first in
-    let noted = (value_of_some _ c.in-Some.number (IsNotedFrom c.args.space.now (view c.args.self.now.desk) (view c.draw_own.new.desk) c.args.asked.now c.args.task c.draw_own.new.task) c.in-Some.is c.in_ok-number.ensures.noted (ask.Send c.args.object c.args.method c.args.held.first) c.requires.came.0 c.requires.asked c.requires.came.1) in
+    let noted = noted_here g (goal.at.returns-in_ok-mind-in-Some-clause-role g c).After-draw_own c.in-Some.is c.in_ok-number.ensures.noted in
     let k = key c.args.object c.args.method in
     let v = view c.draw_own.new.desk in
     let sent = subst (λ (x : Desk Parcel). IsSentOff v (view x) c.in-Some.number k []) (sym d) c.send_letter.ensures.sent in
@@ -124,13 +133,13 @@ returns-in_ok-mind-in-Some-clause-role g c =
 
 pub comes_to_end-requires : goal.comes_to_end-requires
 comes_to_end-requires g c =
-    let noted = (value_of_some _ c.in-Some.number (IsNotedFrom c.args.space.now (view c.args.self.now.desk) (view c.draw_own.new.desk) c.args.asked.now c.args.task c.draw_own.new.task) c.in-Some.is c.in_ok-number.ensures.noted (ask.Send c.args.object c.args.method c.args.held.first) c.requires.came.0 c.requires.asked c.requires.came.1) in
+    let noted = noted_here g (goal.at.comes_to_end-requires g c).After-draw_own c.in-Some.is c.in_ok-number.ensures.noted in
     record { task = rw (c.deref.ensures ∙ c.task.view_is, c.requires.code, c.requires.limits) noted.task }
 
 pub end_and_mind-requires-clause-bounds : goal.end_and_mind-requires-clause-bounds
 end_and_mind-requires-clause-bounds g c =
     let low = (value_of_some _ c.in-Some.number (λ (n : ℕ). n < c.args.space.now.events) c.in-Some.is c.in_ok-number.ensures.within) in
-    let named = (value_of_some _ c.in-Some.number (IsNotedFrom c.args.space.now (view c.args.self.now.desk) (view c.draw_own.new.desk) c.args.asked.now c.args.task c.draw_own.new.task) c.in-Some.is c.in_ok-number.ensures.noted (ask.Send c.args.object c.args.method c.args.held.first) c.requires.came.0 c.requires.asked c.requires.came.1).named c.args.object (inl refl) in
+    let named = (noted_here g (goal.at.end_and_mind-requires-clause-bounds g c).After-draw_own c.in-Some.is c.in_ok-number.ensures.noted).named c.args.object (inl refl) in
     (low, (omega (arith, low, named)), c.send_letter.ensures.bounds.0, c.send_letter.ensures.bounds.1)
 
 pub end_and_mind-requires-clause-came : goal.end_and_mind-requires-clause-came
@@ -140,7 +149,7 @@ pub end_and_mind-requires-clause-minds : goal.end_and_mind-requires-clause-minds
 end_and_mind-requires-clause-minds g c =
     let s = c.args.space.now in
     let w = c.args.self.now in
-    let noted = (value_of_some _ c.in-Some.number (IsNotedFrom c.args.space.now (view c.args.self.now.desk) (view c.draw_own.new.desk) c.args.asked.now c.args.task c.draw_own.new.task) c.in-Some.is c.in_ok-number.ensures.noted (ask.Send c.args.object c.args.method c.args.held.first) c.requires.came.0 c.requires.asked c.requires.came.1) in
+    let noted = noted_here g (goal.at.end_and_mind-requires-clause-minds g c).After-draw_own c.in-Some.is c.in_ok-number.ensures.noted in
     let k = key c.args.object c.args.method in
     let v = view c.draw_own.new.desk in
     let came = rw (c.deref.ensures ∙ c.task.view_is, c.requires.code, c.requires.limits) at (c.comes_to_end.ensures.came c.if-comes_to_end.true) in
@@ -154,7 +163,7 @@ pub returns-then-comes_to_end-clause-role : goal.returns-then-comes_to_end-claus
 returns-then-comes_to_end-clause-role g c =
     let s = c.args.space.now in
     let w = c.args.self.now in
-    let noted = (value_of_some _ c.in-Some.number (IsNotedFrom c.args.space.now (view c.args.self.now.desk) (view c.draw_own.new.desk) c.args.asked.now c.args.task c.draw_own.new.task) c.in-Some.is c.in_ok-number.ensures.noted (ask.Send c.args.object c.args.method c.args.held.first) c.requires.came.0 c.requires.asked c.requires.came.1) in
+    let noted = noted_here g (goal.at.returns-then-comes_to_end-clause-role g c).After-draw_own c.in-Some.is c.in_ok-number.ensures.noted in
     let k = key c.args.object c.args.method in
     let v = view c.draw_own.new.desk in
     let same : IsSameDesk w.desk c.send_letter.new.desk = (c.send_letter.ensures.desk.0 ∙ c.draw_own.ensures.desk.0, c.send_letter.ensures.desk.1 ∙ c.draw_own.ensures.desk.1) in
@@ -164,7 +173,7 @@ returns-then-comes_to_end-clause-role g c =
 
 pub returns-then-comes_to_end-clause-went : goal.returns-then-comes_to_end-clause-went
 returns-then-comes_to_end-clause-went g c =
-    let noted = (value_of_some _ c.in-Some.number (IsNotedFrom c.args.space.now (view c.args.self.now.desk) (view c.draw_own.new.desk) c.args.asked.now c.args.task c.draw_own.new.task) c.in-Some.is c.in_ok-number.ensures.noted (ask.Send c.args.object c.args.method c.args.held.first) c.requires.came.0 c.requires.asked c.requires.came.1) in
+    let noted = noted_here g (goal.at.returns-then-comes_to_end-clause-went g c).After-draw_own c.in-Some.is c.in_ok-number.ensures.noted in
     let x = entry c.in-Some.number noted.body (Sent c.args.object c.args.method c.args.held.first) in
     let kept = c.send_letter.ensures.sent.kept ∙ all_kept (view c.draw_own.new.desk).kept ∙ ap (λ (z : View). z.kept) noted.drawn in
     let minded = c.in_ok-end_and_mind-in-Some.ensures.minded in
@@ -173,7 +182,7 @@ returns-then-comes_to_end-clause-went g c =
 
 pub returns-then-comes_to_end-clause-plays : goal.returns-then-comes_to_end-clause-plays
 returns-then-comes_to_end-clause-plays g c =
-    let noted = (value_of_some _ c.in-Some.number (IsNotedFrom c.args.space.now (view c.args.self.now.desk) (view c.draw_own.new.desk) c.args.asked.now c.args.task c.draw_own.new.task) c.in-Some.is c.in_ok-number.ensures.noted (ask.Send c.args.object c.args.method c.args.held.first) c.requires.came.0 c.requires.asked c.requires.came.1) in
+    let noted = noted_here g (goal.at.returns-then-comes_to_end-clause-plays g c).After-draw_own c.in-Some.is c.in_ok-number.ensures.noted in
     let minded = c.in_ok-end_and_mind-in-Some.ensures.minded in
     let over = c.in_ok-end_and_mind-in-Some.ensures.over in
     plays_next g.G.Gate.knows (view c.args.self.now.desk).kept c.args.task c.requires.came.0 c.end_and_mind.new.self (sym c.requires.came.1.view)
