@@ -81,14 +81,14 @@ pub record AwaitsNumber (code : Parts) (before roomy : Task) (n : ℕ) (ask : Op
   pub may : (a : Ask) → ask ≡ Some a → MaySettle code before n (what_of_ask a)
 
 -- the text that an end gives, if it gives one
-abbrev pub text_given : End → Option (List ℕ)
-text_given (Gives (a_value.Text t)) = Some t
-text_given _ = None
+abbrev pub text_of_end : End → Option (List ℕ)
+text_of_end (Gives (a_value.Text t)) = Some t
+text_of_end _ = None
 
 -- the text with which an ask ends its body, if it is such an end
-abbrev pub text_of_end : Option Ask → Option (List ℕ)
-text_of_end (Some (asks.End e)) = text_given e
-text_of_end _ = None
+abbrev pub text_of_ask : Option Ask → Option (List ℕ)
+text_of_ask (Some (asks.End e)) = text_of_end e
+text_of_ask _ = None
 
 -- the ask became the entry of this number
 pub record HasSettled (code : Parts) (before : Task) (n : ℕ) (w : What) (after : Task) : Type 0 where

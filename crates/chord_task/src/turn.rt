@@ -1,7 +1,7 @@
 //! A turn of a task: its next ask becomes an entry.
 #![tactic(auto)]
 
-ghost use Rattle.std.specs.Prelude.{◌≡◌, ◌≢◌, ℕ, List, ◌<◌, ◌++◌, ◌∷◌, [], IfOk, OnOk, OnErr, None, Some, true, vec_len, vec_capacity};
+ghost use Rattle.std.specs.Prelude.{◌≡◌, ◌≢◌, ℕ, List, ◌<◌, ◌≤◌, ◌++◌, ◌∷◌, [], IfOk, OnOk, OnErr, IsOk, None, Some, true, length, vec_len, vec_capacity};
 ghost use Rattle.chord_base.specs.declared.event.End.{End as AnEnd};
 ghost use Rattle.chord_code.specs.Meaning.{code_program};
 ghost use Rattle.chord_vm.specs.Frames.{what_of_ask};
@@ -10,7 +10,7 @@ ghost use Rattle.chord_task.specs.declared.task.Task.{Task as ATask};
 ghost use Rattle.chord_task.specs.Standing.{view_of, IsTaskOf, is_ready_of, given_by, LastIsReady, HasReturned, HasRoomFor, HasMadeRoom, LosesNothing, WasStocked, SettlesFrames};
 ghost use Rattle.chord_task.specs.Arguments.{MayBeList};
 ghost use Rattle.chord_task.specs.Past.{AddsOne};
-ghost use Rattle.chord_task.specs.Turning.{sent_to, sent_of, MayTurn, HasTurned, RunsOn, HasSettled, AwaitsNumber, text_given, text_of_end, AreBare, IsBareEnd, OwnsNothing};
+ghost use Rattle.chord_task.specs.Turning.{sent_to, sent_of, MayTurn, HasTurned, RunsOn, HasSettled, AwaitsNumber, text_of_end, text_of_ask, AreBare, IsBareEnd, OwnsNothing};
 
 use crate::body::{Body, Next, put};
 use crate::past::Past;
@@ -182,7 +182,8 @@ fn put_text(place: &mut Option<Text>, text: Text)
     forget_text(mem::replace(place, Some(text)));
 }
 
-/// Copies the text that a body gives at its end, if this ask is such an end. Copies of other ends never fail, so they wait until the number is drawn.
+/// Copies the text that a body gives at its end, if this ask is such an end. It may fail for a text of more than 8 bytes alone: copies of other ends never fail,
+/// so they wait until the number is drawn.
 #[inline(always)]
 fn copy_text(
     alloc: Global,
@@ -190,7 +191,9 @@ fn copy_text(
     second: &mut Option<Text>,
 ) -> Result<(), AllocError>
     requires { second.old ≡ None }
-    ensures { OnOk result (second.new ≡ text_of_end asked.now) }
+    ensures second { OnOk result (second.new ≡ text_of_ask asked.now) }
+    ensures other { text_of_ask asked.now ≡ None → IsOk result }
+    ensures short { (t : List ℕ) → text_of_ask asked.now ≡ Some t → length t ≤ 8 → IsOk result }
 {
     match asked {
         Some(Ask::End(End::Gives(Value::Text(text)))) => put_text(second, text.copied(alloc)?),
@@ -202,7 +205,7 @@ fn copy_text(
 /// A copy of an end, for the body below. Of what an end gives only a text's copy may fail: that one was taken before, and is used up here.
 #[inline(always)]
 fn end_copy(end: &End, second: &mut Option<Text>) -> End
-    requires { second.old ≡ text_given end.now }
+    requires { second.old ≡ text_of_end end.now }
     ensures end { result ≡ end.now }
     ensures none { second.new ≡ None }
 {
@@ -382,7 +385,7 @@ impl Task {
         requires none { second.old ≡ None }
         ensures room { OnOk result (HasMadeRoom code.now self.old self.new) }
         ensures place { OnOk result (vec_len list.new < vec_capacity list.new) }
-        ensures second { OnOk result (second.new ≡ text_of_end asked.now) }
+        ensures second { OnOk result (second.new ≡ text_of_ask asked.now) }
         ensures listed { list.new.items ≡ list.old.items }
         ensures kept { LosesNothing code.now self.old self.new }
         ensures entries { vec_len list.old < vec_capacity list.old → list.new ≡ list.old }
@@ -403,7 +406,7 @@ impl Task {
         requires place { vec_len list.old < vec_capacity list.old }
         requires runs { RunsOn self.old.top }
         requires ready { LastIsReady self.old.below.items }
-        requires second { second.old ≡ text_given end.old }
+        requires second { second.old ≡ text_of_end end.old }
         ensures past { (b : ABody) → self.old.top ≡ Some b → self.new.past ≡ self.old.past ++ record { number = number; body = b.number; what = What.Ended end.old } ∷ [] }
         ensures items { (b : ABody) → self.old.top ≡ Some b → list.new.items ≡ list.old.items ++ record { number = number; body = b.number; what = What.Ended end.old } ∷ [] }
         ensures below { vec_capacity self.new.below ≡ vec_capacity self.old.below }
@@ -444,7 +447,7 @@ impl Task {
         requires some { asked.old ≢ None }
         requires awaits { (t : ATask) × AwaitsNumber code.now t self.old number asked.old }
         requires place { vec_len list.old < vec_capacity list.old }
-        requires second { second.old ≡ text_of_end asked.old }
+        requires second { second.old ≡ text_of_ask asked.old }
         ensures settled { (t : ATask) → AwaitsNumber code.now t self.old number asked.old → (a : Ask) × (asked.old ≡ Some a) × HasSettled code.now t number (what_of_ask a) self.new × (result ≡ sent_to (what_of_ask a)) }
         ensures listed { AddsOne self.old.past self.new.past list.old.items list.new.items }
         ensures bare { OwnsNothing asked.new }
