@@ -10,7 +10,7 @@ ghost use Rattle.chord_vm.specs.Frames.{machine_of, instructions_in, with_pushed
 
 use crate::ask::{Ask, put_ask};
 use crate::frames::{Frames, take};
-use crate::loads::asks_at_once;
+use crate::loads::{asks_at_once, number_in, object_in};
 use crate::numbers::set_number;
 use chord_base::operation::Operation;
 use chord_base::value::{Object, Value, Values};
@@ -18,28 +18,6 @@ use chord_code::awaited::Awaited;
 use chord_code::instruction::Instruction;
 use chord_code::parts::Parts;
 use std::mem;
-
-/// The number in a slot, if one stands there.
-#[inline(always)]
-fn number_in(frames: &Frames, slot: usize) -> Option<i32>
-    ensures { IfSome result (λ number. slice_get frames.now.top.slots.items slot ≡ Some (Value.Int number)) }
-{
-    match frames.top.slots.get(slot) {
-        Some(Value::Int(number)) => Some(*number),
-        _ => None,
-    }
-}
-
-/// The object in a slot, if one stands there.
-#[inline(always)]
-fn object_in(frames: &Frames, slot: usize) -> Option<Object>
-    ensures { IfSome result (λ object. slice_get frames.now.top.slots.items slot ≡ Some (Value.Ref object)) }
-{
-    match frames.top.slots.get(slot) {
-        Some(Value::Ref(object)) => Some(*object),
-        _ => None,
-    }
-}
 
 /// The number on top, if one stands there.
 #[inline(always)]
