@@ -1,7 +1,7 @@
 //! A load or a number and the instructions behind it, which are done at once: up to four.
 #![tactic(auto)]
 
-ghost use Rattle.std.specs.Prelude.{◌≡◌, ◌≢◌, ℕ, ℤ, suc, ◌+◌, ◌^◌, ◌<◌, true, false, List, [], ◌∷◌, IfSome, Some, None, slice_get};
+ghost use Rattle.std.specs.Prelude.{◌≡◌, ◌≢◌, ℕ, ℤ, suc, ◌+◌, ◌^◌, ◌<◌, true, false, List, [], ◌∷◌, IfSome, Some, slice_get};
 ghost use Rattle.chord_base.specs.Operators.{Is, compute as compute_of};
 ghost use Rattle.chord_base.specs.declared.value.Value.{Value as AValue};
 ghost use Rattle.chord_code.specs.declared.parts.Parts.{Parts as TheParts};

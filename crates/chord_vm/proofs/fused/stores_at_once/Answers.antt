@@ -6,13 +6,13 @@ use Rattle.chord_code.specs.declared.instruction.Instruction.TheVariants as inst
 use Rattle.chord_code.specs.Machine.{Goes, act, with_top, operate, pushes, store_top}
 use Rattle.chord_vm.specs.Frames.{machine_of, with_pushed}
 use Rattle.chord_vm.proofs.Advance.{first_of, fetch_at, number_pushed}
-use Rattle.chord_vm.proofs.Slots.{begins_with}
+use Rattle.chord_vm.proofs.Slots.{below_top}
 use Rattle.chord_vm.proofs.fused.stores_at_once.Goals as goal
 
 pub store_number-requires-clause-some : goal.store_number-requires-clause-some
 store_number-requires-clause-some c =
     let left = c.in-Some-number_on_top.left in
-    let on_top = begins_with (a_value.Int left) (machine_of c.args.frames.now).top.stack c.in-Some-number_on_top.ensures in
+    let on_top = below_top (a_value.Int left) (machine_of c.args.frames.now).top.stack c.in-Some-number_on_top.ensures in
     (left, on_top.0, on_top.1)
 
 pub returns-in-Some-result_of-clause-yes : goal.returns-in-Some-result_of-clause-yes
