@@ -10,7 +10,7 @@ ghost use Rattle.chord_vm.specs.Frames.{machine_of, instructions_in, with_pushed
 
 use crate::ask::{Ask, put_ask};
 use crate::frames::{Frames, take};
-use crate::loads::{asks_at_once, number_in, object_in};
+use crate::loads::asks_at_once;
 use crate::numbers::set_number;
 use chord_base::operation::Operation;
 use chord_base::value::{Object, Value, Values};
@@ -18,6 +18,28 @@ use chord_code::awaited::Awaited;
 use chord_code::instruction::Instruction;
 use chord_code::parts::Parts;
 use std::mem;
+
+/// The number in a slot, if one stands there.
+#[inline(always)]
+fn number_in(frames: &Frames, slot: usize) -> Option<i32>
+    ensures { IfSome result (λ number. slice_get frames.now.top.slots.items slot ≡ Some (Value.Int number)) }
+{
+    match frames.top.slots.get(slot) {
+        Some(Value::Int(number)) => Some(*number),
+        _ => None,
+    }
+}
+
+/// The object in a slot, if one stands there.
+#[inline(always)]
+fn object_in(frames: &Frames, slot: usize) -> Option<Object>
+    ensures { IfSome result (λ object. slice_get frames.now.top.slots.items slot ≡ Some (Value.Ref object)) }
+{
+    match frames.top.slots.get(slot) {
+        Some(Value::Ref(object)) => Some(*object),
+        _ => None,
+    }
+}
 
 /// The number on top, if one stands there.
 #[inline(always)]
@@ -55,8 +77,8 @@ fn slot_stored(instructions: &[Instruction], place: usize) -> Option<usize>
     }
 }
 
-/// Whether a number stands in a slot. Then the number on top is taken, and its result written to the slot. Of neither there is anything to
-/// drop. The body is then three instructions further.
+/// Whether a number stands in a slot. Where one does, the number on top is taken, and the operator's result is written to the slot: of
+/// neither there is anything to drop. The body is then three instructions further.
 #[inline(always)]
 fn store_number(frames: &mut Frames, slot: usize, number: i32) -> bool
     requires some { (n : ℤ) × (s : List AValue) × ((machine_of frames.old).top.stack ≡ Value.Int n ∷ s) }

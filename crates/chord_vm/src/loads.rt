@@ -1,7 +1,7 @@
 //! A load and the instruction behind it, which asks with what was loaded: both are done at once.
 #![tactic(auto)]
 
-ghost use Rattle.std.specs.Prelude.{◌≡◌, ◌≢◌, ◌+◌, ◌^◌, ◌<◌, true, false, [], ◌∷◌, IfSome, Some, slice_get};
+ghost use Rattle.std.specs.Prelude.{◌≡◌, ◌≢◌, ◌+◌, ◌^◌, ◌<◌, true, false, [], ◌∷◌, Some, None, slice_get};
 ghost use Rattle.chord_base.specs.declared.value.Value.{Value as AValue};
 ghost use Rattle.chord_code.specs.declared.parts.Parts.{Parts as TheParts};
 ghost use Rattle.chord_code.specs.Machine.{Bad, act, send_by, call_by};
@@ -13,28 +13,6 @@ use chord_base::event::End;
 use chord_base::value::{Object, Value, Values};
 use chord_code::awaited::Awaited;
 use chord_code::instruction::Instruction;
-
-/// The number in a slot, if one stands there.
-#[inline(always)]
-pub(crate) fn number_in(frames: &Frames, slot: usize) -> Option<i32>
-    ensures { IfSome result (λ number. slice_get frames.now.top.slots.items slot ≡ Some (Value.Int number)) }
-{
-    match frames.top.slots.get(slot) {
-        Some(Value::Int(number)) => Some(*number),
-        _ => None,
-    }
-}
-
-/// The object in a slot, if one stands there.
-#[inline(always)]
-pub(crate) fn object_in(frames: &Frames, slot: usize) -> Option<Object>
-    ensures { IfSome result (λ object. slice_get frames.now.top.slots.items slot ≡ Some (Value.Ref object)) }
-{
-    match frames.top.slots.get(slot) {
-        Some(Value::Ref(object)) => Some(*object),
-        _ => None,
-    }
-}
 
 /// The body ends with a number.
 #[inline(never)]
@@ -79,15 +57,16 @@ fn call_object(frames: &mut Frames, method: u8, object: Object, asked: &mut Opti
 /// Whether a number that is loaded from this slot ends the body, which it then does.
 #[inline(always)]
 fn ends_at_once(frames: &Frames, slot: usize, asked: &mut Option<Ask>) -> bool
+    requires there { slice_get frames.now.top.slots.items slot ≢ None }
     ensures yes { result ≡ true → (v : AValue) × (slice_get frames.now.top.slots.items slot ≡ Some v) × (asked.new ≡ Some (Ask.End (End.Gives v))) }
     ensures no { result ≡ false → asked.new ≡ asked.old }
 {
-    match number_in(frames, slot) {
-        None => false,
-        Some(number) => {
-            end_with_number(number, asked);
+    match &frames.top.slots[slot] {
+        Value::Int(number) => {
+            end_with_number(*number, asked);
             true
         }
+        _ => false,
     }
 }
 
@@ -95,17 +74,19 @@ fn ends_at_once(frames: &Frames, slot: usize, asked: &mut Option<Ask>) -> bool
 #[inline(always)]
 fn sends_at_once(frames: &mut Frames, slot: usize, method: u8, asked: &mut Option<Ask>) -> bool
     requires fits { frames.old.top.place + 2 < 2 ^ 64 }
+    requires there { slice_get frames.old.top.slots.items slot ≢ None }
     requires sound { (v : AValue) → slice_get frames.old.top.slots.items slot ≡ Some v → send_by method (with_pushed v (machine_of frames.old)) (Some (v ∷ [], (machine_of frames.old).top.stack)) ≢ Bad }
     ensures yes { result ≡ true → (v : AValue) × (slice_get frames.old.top.slots.items slot ≡ Some v) × SteppedTo (send_by method (with_pushed v (machine_of frames.old)) (Some (v ∷ [], (machine_of frames.old).top.stack))) asked.new frames.new }
     ensures no { result ≡ false → frames.new ≡ frames.old }
     ensures unasked { result ≡ false → asked.new ≡ asked.old }
 {
-    match number_in(frames, slot) {
-        None => false,
-        Some(number) => {
+    match &frames.top.slots[slot] {
+        Value::Int(number) => {
+            let number = *number;
             send_number(frames, method, number, asked);
             true
         }
+        _ => false,
     }
 }
 
@@ -113,6 +94,7 @@ fn sends_at_once(frames: &mut Frames, slot: usize, method: u8, asked: &mut Optio
 #[inline(always)]
 fn calls_at_once(frames: &mut Frames, slot: usize, method: u8, asked: &mut Option<Ask>) -> bool
     requires fits { frames.old.top.place + 2 < 2 ^ 64 }
+    requires there { slice_get frames.old.top.slots.items slot ≢ None }
     ensures yes { result ≡ true → (v : AValue) × (slice_get frames.old.top.slots.items slot ≡ Some v) × SteppedTo (call_by method (with_pushed v (machine_of frames.old)) (Some ([], v ∷ (machine_of frames.old).top.stack))) asked.new frames.new }
     ensures no { result ≡ false → frames.new ≡ frames.old }
     ensures unasked { result ≡ false → asked.new ≡ asked.old }
@@ -120,12 +102,13 @@ fn calls_at_once(frames: &mut Frames, slot: usize, method: u8, asked: &mut Optio
     if frames.top.room == 0 {
         return false;
     }
-    match object_in(frames, slot) {
-        None => false,
-        Some(object) => {
+    match &frames.top.slots[slot] {
+        Value::Ref(object) => {
+            let object = *object;
             call_object(frames, method, object, asked);
             true
         }
+        _ => false,
     }
 }
 
@@ -139,6 +122,7 @@ pub(crate) fn asks_at_once(
     asked: &mut Option<Ask>,
 ) -> bool
     requires fits { frames.old.top.place + 2 < 2 ^ 64 }
+    requires there { slice_get frames.old.top.slots.items slot ≢ None }
     requires sound { (code : TheParts) × ((v : AValue) → slice_get frames.old.top.slots.items slot ≡ Some v → act code (Some behind.now) (with_pushed v (machine_of frames.old)) ≢ Bad) }
     ensures yes { result ≡ true → (code : TheParts) → (v : AValue) × (slice_get frames.old.top.slots.items slot ≡ Some v) × SteppedTo (act code (Some behind.now) (with_pushed v (machine_of frames.old))) asked.new frames.new }
     ensures no { result ≡ false → frames.new ≡ frames.old }

@@ -121,8 +121,8 @@ fn operate_top(frames: &mut Frames, operation: Operation, right: i32)
     frames.top.place += 2;
 }
 
-/// A number and the operator behind it are done at once: the number goes to it straight. Each operator goes its own way from the start, since
-/// what they share would be a second jump for all.
+/// A number and the operator behind it are done at once: the number goes to it straight. Each operator goes its own way from the start,
+/// since what they share would be a second jump for all.
 #[inline(always)]
 pub(crate) fn operate_on(frames: &mut Frames, operation: Operation, right: i32)
     requires fits { frames.old.top.place + 2 < 2 ^ 64 }

@@ -1,8 +1,13 @@
 use Rattle.std.proofs.Common.{◌≡◌, Some, ap, ◌∙◌, sym, subst}
-use Rattle.chord_code.specs.Machine.{act, run}
+use Rattle.chord_code.specs.Machine.{act, loads, run}
 use Rattle.chord_vm.specs.Frames.{machine_of, with_pushed, SteppedTo}
 use Rattle.chord_vm.proofs.Advance.{not_bad, defined_on, value_pushed, first_of, ran_once}
 use Rattle.chord_vm.proofs.fused.load_at_once.Goals as goal
+
+pub asks_at_once-requires-clause-there : goal.asks_at_once-requires-clause-there
+asks_at_once-requires-clause-there c = λ e.
+    let m = machine_of c.args.frames.now in
+    not_bad c.args.parts.now m c.requires.sound (ap (λ o. act c.args.parts.now o m) c.requires.load ∙ ap (loads m) e)
 
 pub asks_at_once-requires-clause-sound : goal.asks_at_once-requires-clause-sound
 asks_at_once-requires-clause-sound c =
