@@ -1,5 +1,5 @@
 -- From one instruction to the next ask.
-use Rattle.std.proofs.Common.{◌≡◌, ℕ, ℤ, zero, suc, ◌+◌, ◌<◌, ◌≤◌, List, [], ◌∷◌, Option, Some, None, length, get_or, refl, sym, ◌∙◌, ap, subst, arith, ◌⊎◌, inl, inr, ⊎_elim}
+use Rattle.std.proofs.Common.{◌≡◌, ℕ, ℤ, zero, suc, ◌+◌, ◌^◌, ◌<◌, ◌≤◌, List, [], ◌∷◌, Option, Some, None, length, get_or, refl, sym, ◌∙◌, ap, subst, arith, ◌⊎◌, inl, inr, ⊎_elim}
 use Rattle.std.specs.Prelude.{slice_get}
 use Rattle.std.proofs.lemmas.Option.{slice_get_past}
 use Rattle.std.proofs.lemmas.Bool.{cases_lt}
@@ -10,13 +10,15 @@ use Rattle.chord_vm.specs.declared.ask.Ask.{Ask}
 use Rattle.chord_vm.specs.declared.ask.Ask.TheVariants as ask
 use Rattle.chord_code.specs.declared.instruction.Instruction.{Instruction}
 use Rattle.chord_code.specs.declared.instruction.Instruction.TheVariants as instr
+use Rattle.chord_base.specs.declared.operation.Operation.{Operation}
 use Rattle.chord_base.specs.declared.value.Value.{Value}
 use Rattle.chord_base.specs.declared.value.Value.TheVariants as a_value
 use Rattle.chord_code.specs.declared.awaited.Awaited.TheVariants.{ForNothing}
 use Rattle.chord_code.specs.declared.parts.Block.{Block}
 use Rattle.chord_code.specs.declared.parts.Parts.{Parts}
 use Rattle.chord_vm.specs.declared.frames.Frames.{Frames}
-use Rattle.chord_code.specs.Machine.{Machine, Waiting, Did, Goes, Asking, Bad, instr_in, fetch, act, step, loads, goes_on, run, ComesTo, ComesToAsk, IsForward}
+use Rattle.chord_code.specs.Machine.{Machine, Waiting, Did, Goes, Asking, Bad, instr_in, fetch, act, step, loads, goes_on, run, ComesTo, ComesToAsk, IsForward, operate}
+use Rattle.chord_code.specs.Within.{IsInstructionWithin}
 use Rattle.chord_code.specs.Fuel.{weight}
 use Rattle.chord_code.proofs.Weight.{lighter}
 use Rattle.chord_vm.specs.Frames.{machine_of, waiting_of, SteppedTo, HasStepped, Advanced, instructions_of, instructions_in, frame_with, with_pushed}
@@ -259,3 +261,30 @@ advanced_to_end code m xs p f h (inl e) end = end_here code m f (fetch_at code m
 advanced_to_end code m xs p f h (inr j) end =
     advanced_on code m (jumped p m) (ask.End (Gives a_value.Unit)) f (ap (λ o. act code o m) (fetch_at code m xs h ∙ j))
     (end_here code (jumped p m) f (fetch_at code (jumped p m) xs h ∙ end))
+
+-- a number, and the operator behind it, where nothing else was done before
+pub ran_operator : (code : Parts) (f f' : Frames) (m : Machine) (n : ℤ) (op : Operation) (i : Instruction) → f' ≡ f → step code (machine_of f) ≡ Goes (with_pushed (a_value.Int n) (machine_of f)) → fetch code f.top.block (suc f.top.place) ≡ Some i → ((k : Machine) → act code (Some i) k ≡ operate op k k.top.stack) → operate op (with_pushed (a_value.Int n) (machine_of f')) (a_value.Int n ∷ (machine_of f').top.stack) ≡ Goes m → run code 2 (machine_of f) ≡ Goes m
+ran_operator code f f' m n op i same pushed behind acts goes =
+    let between = with_pushed (a_value.Int n) (machine_of f) in
+    let went = subst (λ (x : Frames). operate op (with_pushed (a_value.Int n) (machine_of x)) (a_value.Int n ∷ (machine_of x).top.stack) ≡ Goes m) same goes in
+    first_of code 1 (machine_of f) between (Goes m) pushed (ran_once code between ∙ ap (λ o. act code o between) behind ∙ acts between ∙ went)
+
+-- a run at work: the instruction at its place, and that it comes to what it came to where it began
+pub record IsAtWork (code : Parts) (start : Frames) (xs : List Instruction) (f : Frames) (i : Instruction) : Type 0 where
+  pub fetched : fetch code f.top.block f.top.place ≡ Some i
+  pub here : instructions_in code f.top.block ≡ Some xs
+  pub within : IsInstructionWithin i
+  pub fits : f.top.place + 1 < 2 ^ 64
+  pub defined : ComesToAsk code (machine_of f)
+  pub goes_on : (a : Ask) (g : Frames) → Advanced code (machine_of f) a g → Advanced code (machine_of start) a g
+
+-- a run at work still is after instructions that go on
+pub works_on : (code : Parts) (n : ℕ) (start : Frames) (xs xs' : List Instruction) (f f' : Frames) (i i' : Instruction) → IsAtWork code start xs f i → run code n (machine_of f) ≡ Goes (machine_of f') → instructions_in code f'.top.block ≡ Some xs' → fetch code f'.top.block f'.top.place ≡ Some i' → IsInstructionWithin i' → f'.top.place + 1 < 2 ^ 64 → IsAtWork code start xs' f' i'
+works_on code n start xs xs' f f' i i' w ran here fetched within fits = record {
+  fetched = fetched;
+  here = here;
+  within = within;
+  fits = fits;
+  defined = ran_defined code n (machine_of f) (machine_of f') ran w.defined;
+  goes_on = λ a g h. w.goes_on a g (ran_advanced code n (machine_of f) (machine_of f') a g ran h);
+}

@@ -36,6 +36,11 @@ slot_within i v xs h = ⊎_elim (λ lt. lt) (λ le. absurd (no (sym (slice_get_p
     no : None ≡ Some v → ⊥
     no e = cc
 
+-- the values below the one on top of a stack
+pub below_top : (v : Value) (xs : List Value) → slice_get xs 0 ≡ Some v → (s : List Value) × (xs ≡ v ∷ s)
+below_top v [] e = cc
+below_top v (x ∷ s) e = (let z : x ≡ v = cc in (s, ap (λ y. y ∷ s) z))
+
 -- to pop a list that was pushed in its order, and then m more, is to pop these m before the list
 pops_more : (b : List Value) (m : ℕ) (ys t : List Value) → pops (length b + m) ys (reverse b ++ t) ≡ pops m (b ++ ys) t
 pops_more [] m ys t = let e : 0 + m ≡ m = omega arith in ap (λ n. pops n ys t) e

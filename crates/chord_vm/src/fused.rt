@@ -1,7 +1,7 @@
-//! A load or a number and the instructions behind it, which are done at once: up to four instructions in one.
+//! A load or a number and the instructions behind it, which are done at once: up to four.
 #![tactic(auto)]
 
-ghost use Rattle.std.specs.Prelude.{◌≡◌, ◌≢◌, ℕ, suc, ◌+◌, ◌^◌, ◌<◌, true, false, List, [], ◌∷◌, IfSome, Some, None, slice_get};
+ghost use Rattle.std.specs.Prelude.{◌≡◌, ◌≢◌, ℕ, ℤ, suc, ◌+◌, ◌^◌, ◌<◌, true, false, List, [], ◌∷◌, IfSome, Some, slice_get};
 ghost use Rattle.chord_base.specs.Operators.{Is, compute as compute_of};
 ghost use Rattle.chord_base.specs.declared.value.Value.{Value as AValue};
 ghost use Rattle.chord_code.specs.declared.parts.Parts.{Parts as TheParts};
@@ -77,14 +77,15 @@ fn slot_stored(instructions: &[Instruction], place: usize) -> Option<usize>
     }
 }
 
-/// Whether a number is stored in a slot in which a number stands, which it then is, in place of the number on top. Of neither there is
-/// anything to drop. The body is then three instructions further.
+/// Whether a number stands in a slot. Where one does, the number on top is taken, and the operator's result is written to the slot: of
+/// neither there is anything to drop. The body is then three instructions further.
 #[inline(always)]
-fn keep_number(frames: &mut Frames, slot: usize, number: i32) -> bool
-    requires some { (machine_of frames.old).top.stack ≢ [] }
+fn store_number(frames: &mut Frames, slot: usize, number: i32) -> bool
+    requires some { (n : ℤ) × (s : List AValue) × ((machine_of frames.old).top.stack ≡ Value.Int n ∷ s) }
     requires fits { frames.old.top.place + 3 < 2 ^ 64 }
     ensures yes { result ≡ true → (v : AValue) × (s : List AValue) × ((machine_of frames.old).top.stack ≡ v ∷ s) × (store_top slot (with_top (machine_of frames.old) (frames.old.top.place + 2) (Value.Int number ∷ s) frames.old.top.slots.items frames.old.turns) (Value.Int number ∷ s) ≡ Goes (machine_of frames.new)) }
     ensures block { frames.new.top.block ≡ frames.old.top.block }
+    ensures rest { frames.new ≡ record frames.old { top = frames.new.top } }
     ensures no { result ≡ false → frames.new ≡ frames.old }
 {
     match number_in(frames, slot) {
@@ -114,6 +115,7 @@ pub(crate) fn stores_at_once(
     requires operator { (m : Machine) → act parts.now (fetch parts.now frames.old.top.block (suc frames.old.top.place)) m ≡ operate_of operation m m.top.stack }
     ensures yes { result ≡ true → run_of parts.now 3 (machine_of frames.old) ≡ Goes (machine_of frames.new) }
     ensures block { frames.new.top.block ≡ frames.old.top.block }
+    ensures rest { frames.new ≡ record frames.old { top = frames.new.top } }
     ensures no { result ≡ false → frames.new ≡ frames.old }
 {
     match slot_stored(instructions, frames.top.place + 2) {
@@ -122,7 +124,7 @@ pub(crate) fn stores_at_once(
             None => false,
             Some(left) => match result_of(operation, left, right) {
                 None => false,
-                Some(number) => keep_number(frames, slot, number),
+                Some(number) => store_number(frames, slot, number),
             },
         },
     }
@@ -148,6 +150,7 @@ fn compared_at(instructions: &[Instruction], place: usize, left: i32, right: i32
 fn branch_at(frames: &mut Frames, instructions: &[Instruction], place: usize, flag: bool) -> bool
     ensures yes { result ≡ true → (code : TheParts) → act code (slice_get instructions.now place) (with_top (machine_of frames.old) place (Value.Flag flag ∷ (machine_of frames.old).top.stack) frames.old.top.slots.items frames.old.turns) ≡ Goes (machine_of frames.new) }
     ensures block { frames.new.top.block ≡ frames.old.top.block }
+    ensures rest { frames.new ≡ record frames.old { top = frames.new.top; turns = frames.new.turns } }
     ensures no { result ≡ false → frames.new ≡ frames.old }
 {
     match instructions.get(place) {
@@ -187,6 +190,7 @@ pub(crate) fn branches_at_once(
     requires number { fetch parts.now frames.old.top.block (suc frames.old.top.place) ≡ Some (Instruction.Int right) }
     ensures yes { result ≡ true → run_of parts.now 4 (machine_of frames.old) ≡ Goes (machine_of frames.new) }
     ensures block { frames.new.top.block ≡ frames.old.top.block }
+    ensures rest { frames.new ≡ record frames.old { top = frames.new.top; turns = frames.new.turns } }
     ensures no { result ≡ false → frames.new ≡ frames.old }
 {
     let place = frames.top.place;
@@ -248,6 +252,7 @@ pub(crate) fn sends_loaded(
     requires argument { fetch parts.now frames.old.top.block (suc frames.old.top.place) ≡ Some (Instruction.Load argument) }
     ensures yes { result ≡ true → SteppedTo (run_of parts.now 3 (machine_of frames.old)) asked.new frames.new }
     ensures no { result ≡ false → frames.new ≡ frames.old }
+    ensures unasked { result ≡ false → asked.new ≡ asked.old }
 {
     match method_sent(instructions, frames.top.place + 2) {
         None => false,
@@ -292,8 +297,10 @@ pub(crate) fn load_at_once(
     requires behind { fetch parts.now frames.old.top.block (suc frames.old.top.place) ≡ Some behind.now }
     ensures branch { result ≡ AtOnce.Branch → run_of parts.now 4 (machine_of frames.old) ≡ Goes (machine_of frames.new) }
     ensures block { result ≡ AtOnce.Branch → frames.new.top.block ≡ frames.old.top.block }
+    ensures rest { result ≡ AtOnce.Branch → frames.new ≡ record frames.old { top = frames.new.top; turns = frames.new.turns } }
     ensures ask { result ≡ AtOnce.Ask → (n : ℕ) × SteppedTo (run_of parts.now n (machine_of frames.old)) asked.new frames.new }
     ensures nothing { result ≡ AtOnce.Nothing → frames.new ≡ frames.old }
+    ensures unasked { result ≢ AtOnce.Ask → asked.new ≡ asked.old }
 {
     match behind {
         Instruction::Int(number) => {

@@ -1,4 +1,4 @@
-//! A load and the instruction behind it, which asks with what was loaded: two instructions in one.
+//! A load and the instruction behind it, which asks with what was loaded: both are done at once.
 #![tactic(auto)]
 
 ghost use Rattle.std.specs.Prelude.{◌≡◌, ◌≢◌, ◌+◌, ◌^◌, ◌<◌, true, false, [], ◌∷◌, Some, None, slice_get};
@@ -58,7 +58,8 @@ fn call_object(frames: &mut Frames, method: u8, object: Object, asked: &mut Opti
 #[inline(always)]
 fn ends_at_once(frames: &Frames, slot: usize, asked: &mut Option<Ask>) -> bool
     requires there { slice_get frames.now.top.slots.items slot ≢ None }
-    ensures { result ≡ true → (v : AValue) × (slice_get frames.now.top.slots.items slot ≡ Some v) × (asked.new ≡ Some (Ask.End (End.Gives v))) }
+    ensures yes { result ≡ true → (v : AValue) × (slice_get frames.now.top.slots.items slot ≡ Some v) × (asked.new ≡ Some (Ask.End (End.Gives v))) }
+    ensures no { result ≡ false → asked.new ≡ asked.old }
 {
     match &frames.top.slots[slot] {
         Value::Int(number) => {
@@ -77,6 +78,7 @@ fn sends_at_once(frames: &mut Frames, slot: usize, method: u8, asked: &mut Optio
     requires sound { (v : AValue) → slice_get frames.old.top.slots.items slot ≡ Some v → send_by method (with_pushed v (machine_of frames.old)) (Some (v ∷ [], (machine_of frames.old).top.stack)) ≢ Bad }
     ensures yes { result ≡ true → (v : AValue) × (slice_get frames.old.top.slots.items slot ≡ Some v) × SteppedTo (send_by method (with_pushed v (machine_of frames.old)) (Some (v ∷ [], (machine_of frames.old).top.stack))) asked.new frames.new }
     ensures no { result ≡ false → frames.new ≡ frames.old }
+    ensures unasked { result ≡ false → asked.new ≡ asked.old }
 {
     match &frames.top.slots[slot] {
         Value::Int(number) => {
@@ -95,6 +97,7 @@ fn calls_at_once(frames: &mut Frames, slot: usize, method: u8, asked: &mut Optio
     requires there { slice_get frames.old.top.slots.items slot ≢ None }
     ensures yes { result ≡ true → (v : AValue) × (slice_get frames.old.top.slots.items slot ≡ Some v) × SteppedTo (call_by method (with_pushed v (machine_of frames.old)) (Some ([], v ∷ (machine_of frames.old).top.stack))) asked.new frames.new }
     ensures no { result ≡ false → frames.new ≡ frames.old }
+    ensures unasked { result ≡ false → asked.new ≡ asked.old }
 {
     if frames.top.room == 0 {
         return false;
@@ -123,6 +126,7 @@ pub(crate) fn asks_at_once(
     requires sound { (code : TheParts) × ((v : AValue) → slice_get frames.old.top.slots.items slot ≡ Some v → act code (Some behind.now) (with_pushed v (machine_of frames.old)) ≢ Bad) }
     ensures yes { result ≡ true → (code : TheParts) → (v : AValue) × (slice_get frames.old.top.slots.items slot ≡ Some v) × SteppedTo (act code (Some behind.now) (with_pushed v (machine_of frames.old))) asked.new frames.new }
     ensures no { result ≡ false → frames.new ≡ frames.old }
+    ensures unasked { result ≡ false → asked.new ≡ asked.old }
 {
     match behind {
         Instruction::Endv => ends_at_once(frames, slot, asked),

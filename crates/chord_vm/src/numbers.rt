@@ -104,7 +104,7 @@ fn compute_at(left: &mut Value, operation: Operation, right: i32)
     }
 }
 
-/// A number that would be pushed and taken at once by this operator goes to it straight.
+/// A number and this operator behind it are done at once: the number goes to it straight.
 #[inline(always)]
 fn operate_top(frames: &mut Frames, operation: Operation, right: i32)
     requires fits { frames.old.top.place + 2 < 2 ^ 64 }
@@ -112,6 +112,7 @@ fn operate_top(frames: &mut Frames, operation: Operation, right: i32)
     requires sound { operate_of operation (with_pushed (Value.Int right) (machine_of frames.old)) (Value.Int right ∷ (machine_of frames.old).top.stack) ≢ Bad }
     ensures goes { operate_of operation (with_pushed (Value.Int right) (machine_of frames.old)) (Value.Int right ∷ (machine_of frames.old).top.stack) ≡ Goes (machine_of frames.new) }
     ensures block { frames.new.top.block ≡ frames.old.top.block }
+    ensures rest { frames.new ≡ record frames.old { top = frames.new.top } }
 {
     match frames.top.stack.last_mut() {
         Some(left) => compute_at(left, operation, right),
@@ -120,8 +121,8 @@ fn operate_top(frames: &mut Frames, operation: Operation, right: i32)
     frames.top.place += 2;
 }
 
-/// A number that would be pushed and taken at once by an operator goes to it straight: two instructions in one. Each operator goes its own
-/// way from the start, since what they share would be a second jump for all.
+/// A number and the operator behind it are done at once: the number goes to it straight. Each operator goes its own way from the start,
+/// since what they share would be a second jump for all.
 #[inline(always)]
 pub(crate) fn operate_on(frames: &mut Frames, operation: Operation, right: i32)
     requires fits { frames.old.top.place + 2 < 2 ^ 64 }
@@ -129,6 +130,7 @@ pub(crate) fn operate_on(frames: &mut Frames, operation: Operation, right: i32)
     requires sound { operate_of operation (with_pushed (Value.Int right) (machine_of frames.old)) (Value.Int right ∷ (machine_of frames.old).top.stack) ≢ Bad }
     ensures goes { operate_of operation (with_pushed (Value.Int right) (machine_of frames.old)) (Value.Int right ∷ (machine_of frames.old).top.stack) ≡ Goes (machine_of frames.new) }
     ensures block { frames.new.top.block ≡ frames.old.top.block }
+    ensures rest { frames.new ≡ record frames.old { top = frames.new.top } }
 {
     match operation {
         Operation::Add => operate_top(frames, Operation::Add, right),

@@ -647,7 +647,10 @@ fn behind_load<'a>(
     &instructions[frames.top.place + 1]
 }
 
-/// Runs to the next ask, which is put. It stands in line: a turn that calls it saves all registers for a few instructions.
+/// Runs to the next ask, which is put. It stands in line. Called, it would have each turn save all registers for a few instructions.
+///
+/// The instructions of a block are looked up once, until another block comes to work. The next instruction is fetched where the loop ends:
+/// each arm of the step goes there by itself, and no test stands between.
 #[inline(always)]
 fn run(
     alloc: Global,
@@ -659,10 +662,8 @@ fn run(
     requires sound { ComesToAsk parts.now (machine_of frames.old) }
     ensures { OnOk result ((ask : Ask) × (asked.new ≡ Some ask) × Advanced parts.now (machine_of frames.old) ask frames.new) }
 {
-    // the instructions of a block are looked up once, until another block comes to work
     let mut instructions = at_work(parts, frames);
     let mut instruction = next(instructions, parts, frames);
-    // the next instruction is fetched where the loop ends: each arm of the step goes there by itself, and no test stands between
     'steps: loop {
         if let Instruction::Int(number) = instruction {
             let number = *number;

@@ -6,14 +6,21 @@ use Rattle.chord_code.specs.declared.instruction.Instruction.TheVariants as inst
 use Rattle.chord_code.specs.Machine.{Goes, act, with_top, operate, pushes, store_top}
 use Rattle.chord_vm.specs.Frames.{machine_of, with_pushed}
 use Rattle.chord_vm.proofs.Advance.{first_of, fetch_at, number_pushed}
+use Rattle.chord_vm.proofs.Slots.{below_top}
 use Rattle.chord_vm.proofs.fused.stores_at_once.Goals as goal
+
+pub store_number-requires-clause-some : goal.store_number-requires-clause-some
+store_number-requires-clause-some c =
+    let left = c.in-Some-number_on_top.left in
+    let on_top = below_top (a_value.Int left) (machine_of c.args.frames.now).top.stack c.in-Some-number_on_top.ensures in
+    (left, on_top.0, on_top.1)
 
 pub returns-in-Some-result_of-clause-yes : goal.returns-in-Some-result_of-clause-yes
 returns-in-Some-result_of-clause-yes c = λ yes.
     let code = c.args.parts.now in
     let m = machine_of c.args.frames.now in
     let xs = c.args.instructions.now in
-    let kept = c.keep_number.ensures.yes yes in
+    let kept = c.store_number.ensures.yes yes in
     let right = to_z w32 (of_z w32 c.args.right) in
     let same : c.args.right ≡ right = search (rules, c.ranges.right.sfits) in
     let pushed = with_pushed (a_value.Int right) m in
@@ -22,7 +29,7 @@ returns-in-Some-result_of-clause-yes c = λ yes.
     let known : c.in-Some-number_on_top.left ≡ to_z w32 (of_z w32 c.in-Some-number_on_top.left) = search (rules, c.number_on_top.type_inv, c.in-Some-number_on_top.is) in
     let given : c.in-Some-result_of.number ≡ to_z w32 (of_z w32 c.in-Some-result_of.number) = search (rules, c.result_of.type_inv, c.in-Some-result_of.is) in
     let computed = with_top m (suc (suc m.top.place)) (result ∷ kept.1) m.top.slots m.turns in
-    let n = machine_of c.keep_number.new.frames in
+    let n = machine_of c.store_number.new.frames in
     let third : suc (suc m.top.place) ≡ c.args.frames.now.top.place + 2 = omega arith in
     let top : Some kept.0 ≡ Some left = ap (λ s. slice_get s 0) (sym kept.2) ∙ c.in-Some-number_on_top.ensures ∙ ap (λ k. Some (a_value.Int k)) known in
     let on_top : kept.0 ≡ left = cc in

@@ -1,13 +1,12 @@
-use Rattle.std.proofs.Common.{◌≡◌, ◌≢◌, ◌<◌, ◌∷◌, Some, refl, ap, ◌∙◌, sym, subst, arith, to_z, of_z, w32}
+use Rattle.std.proofs.Common.{◌≡◌, ◌≢◌, ◌∷◌, Some, refl, ap, ◌∙◌, sym, subst, to_z, of_z, w32}
 use Rattle.std.specs.Prelude.{slice_get}
 use Rattle.chord_code.specs.declared.instruction.Instruction.TheVariants as instr
 use Rattle.chord_code.specs.Machine.{act, step, loads, operate, run, Goes, Bad, ComesToAsk}
 use Rattle.chord_vm.specs.declared.frames.Frames.{Frames}
 use Rattle.chord_vm.specs.declared.step.After.TheVariants as steps
-use Rattle.chord_code.specs.Fuel.{weight}
 use Rattle.chord_vm.specs.Frames.{machine_of, SteppedTo, instructions_in, with_pushed}
 use Rattle.chord_base.specs.declared.value.Value.TheVariants as a_value
-use Rattle.chord_vm.proofs.Advance.{not_bad, put_ask, went_to, moved_to, stepped_advanced, advanced_on, defined_on, ran_defined, ran_lighter, ran_advanced, ran_to_ask}
+use Rattle.chord_vm.proofs.Advance.{not_bad, put_ask, went_to, moved_to, stepped_advanced, defined_on, ran_once, ran_defined, ran_lighter, ran_to_ask, ran_operator, works_on}
 use Rattle.chord_vm.proofs.Stays.{stays}
 use Rattle.chord_code.proofs.Weight.{lighter}
 use Rattle.chord_code.proofs.Validity.{valid_forward}
@@ -71,31 +70,22 @@ pub steps-preserved-in-Goes : goal.steps-preserved-in-Goes
 steps-preserved-in-Goes c =
     let code = c.args.parts.now in
     let m = machine_of c.steps.frames in
-    let g = went_to (act code (Some c.steps.instruction.now) m) c.step.result c.step.new.asked c.step.new.frames c.in-Goes.is c.step.ensures.stepped in
-    let e : step code m ≡ Goes (machine_of c.step.new.frames) = ap (λ o. act code o m) c.steps.invariant.fetched ∙ g in
-    record {
-      fetched = c.next-instruction-in-Goes.ensures.instruction;
-      here = ap (instructions_in code) (stays code m (machine_of c.step.new.frames) c.steps.instruction.now (c.step.ensures.stays c.in-Goes.is) g) ∙ c.steps.invariant.here;
-      within = c.next-instruction-in-Goes.ensures.within;
-      fits = c.next-instruction-in-Goes.ensures.fits;
-      defined = defined_on code m (machine_of c.step.new.frames) e c.steps.invariant.defined;
-      goes_on = λ a f h. c.steps.invariant.goes_on a f (advanced_on code m (machine_of c.step.new.frames) a f e h);
-    }
+    let f = c.step.new.frames in
+    let next = c.next-instruction-in-Goes.ensures in
+    let g = went_to (act code (Some c.steps.instruction.now) m) c.step.result c.step.new.asked f c.in-Goes.is c.step.ensures.stepped in
+    let ran : run code 1 m ≡ Goes (machine_of f) = ran_once code m ∙ ap (λ o. act code o m) c.steps.invariant.fetched ∙ g in
+    let here = ap (instructions_in code) (stays code m (machine_of f) c.steps.instruction.now (c.step.ensures.stays c.in-Goes.is) g) ∙ c.steps.invariant.here in
+    works_on code 1 _ _ _ _ f _ _ c.steps.invariant ran here next.instruction next.within next.fits
 
 pub steps-preserved : goal.steps-preserved
 steps-preserved c =
     let code = c.args.parts.now in
     let m = machine_of c.steps.frames in
-    let g = moved_to (act code (Some c.steps.instruction.now) m) c.step.result c.step.new.asked c.step.new.frames c.in-Moves.is c.step.ensures.stepped in
-    let e : step code m ≡ Goes (machine_of c.step.new.frames) = ap (λ o. act code o m) c.steps.invariant.fetched ∙ g in
-    record {
-      fetched = c.next-instruction-in-Moves.ensures.instruction;
-      here = c.at_work-instructions-in-Moves.ensures;
-      within = c.next-instruction-in-Moves.ensures.within;
-      fits = c.next-instruction-in-Moves.ensures.fits;
-      defined = defined_on code m (machine_of c.step.new.frames) e c.steps.invariant.defined;
-      goes_on = λ a f h. c.steps.invariant.goes_on a f (advanced_on code m (machine_of c.step.new.frames) a f e h);
-    }
+    let f = c.step.new.frames in
+    let next = c.next-instruction-in-Moves.ensures in
+    let g = moved_to (act code (Some c.steps.instruction.now) m) c.step.result c.step.new.asked f c.in-Moves.is c.step.ensures.stepped in
+    let ran : run code 1 m ≡ Goes (machine_of f) = ran_once code m ∙ ap (λ o. act code o m) c.steps.invariant.fetched ∙ g in
+    works_on code 1 _ _ _ _ f _ _ c.steps.invariant ran c.at_work-instructions-in-Moves.ensures next.instruction next.within next.fits
 
 pub stores_at_once-requires-clause-operator : goal.stores_at_once-requires-clause-operator
 stores_at_once-requires-clause-operator c = λ m. ap (λ o. act c.args.parts.now o m) c.following.ensures.instruction ∙ c.in-Some.ensures.1 c.args.parts.now m
@@ -113,18 +103,9 @@ steps-smaller-then-stores_at_once c =
 
 pub steps-preserved-then-stores_at_once : goal.steps-preserved-then-stores_at_once
 steps-preserved-then-stores_at_once c =
-    let code = c.args.parts.now in
-    let m = machine_of c.steps.frames in
-    let n = machine_of c.stores_at_once.new.frames in
-    let ran : run code 3 m ≡ Goes n = c.stores_at_once.ensures.yes c.if-stores_at_once.true in
-    record {
-      fetched = c.next-instruction-then-stores_at_once.ensures.instruction;
-      here = ap (instructions_in code) c.stores_at_once.ensures.block ∙ c.steps.invariant.here;
-      within = c.next-instruction-then-stores_at_once.ensures.within;
-      fits = c.next-instruction-then-stores_at_once.ensures.fits;
-      defined = ran_defined code 3 m n ran c.steps.invariant.defined;
-      goes_on = λ a f h. c.steps.invariant.goes_on a f (ran_advanced code 3 m n a f ran h);
-    }
+    let here = ap (instructions_in c.args.parts.now) c.stores_at_once.ensures.block ∙ c.steps.invariant.here in
+    let next = c.next-instruction-then-stores_at_once.ensures in
+    works_on c.args.parts.now 3 _ _ _ _ c.stores_at_once.new.frames _ _ c.steps.invariant (c.stores_at_once.ensures.yes c.if-stores_at_once.true) here next.instruction next.within next.fits
 
 pub next-instruction-requires-in-Branch-clause-sound : goal.next-instruction-requires-in-Branch-clause-sound
 next-instruction-requires-in-Branch-clause-sound c =
@@ -139,18 +120,9 @@ steps-smaller-in-Branch c =
 
 pub steps-preserved-in-Branch : goal.steps-preserved-in-Branch
 steps-preserved-in-Branch c =
-    let code = c.args.parts.now in
-    let m = machine_of c.steps.frames in
-    let n = machine_of c.load_at_once.new.frames in
-    let ran : run code 4 m ≡ Goes n = c.load_at_once.ensures.branch c.in-Branch.is in
-    record {
-      fetched = c.next-instruction-in-Branch.ensures.instruction;
-      here = ap (instructions_in code) (c.load_at_once.ensures.block c.in-Branch.is) ∙ c.steps.invariant.here;
-      within = c.next-instruction-in-Branch.ensures.within;
-      fits = c.next-instruction-in-Branch.ensures.fits;
-      defined = ran_defined code 4 m n ran c.steps.invariant.defined;
-      goes_on = λ a f h. c.steps.invariant.goes_on a f (ran_advanced code 4 m n a f ran h);
-    }
+    let here = ap (instructions_in c.args.parts.now) (c.load_at_once.ensures.block c.in-Branch.is) ∙ c.steps.invariant.here in
+    let next = c.next-instruction-in-Branch.ensures in
+    works_on c.args.parts.now 4 _ _ _ _ c.load_at_once.new.frames _ _ c.steps.invariant (c.load_at_once.ensures.branch c.in-Branch.is) here next.instruction next.within next.fits
 
 pub returns-in-Ask : goal.returns-in-Ask
 returns-in-Ask c =
@@ -178,50 +150,30 @@ pub next-instruction-requires-in-Some-clause-sound : goal.next-instruction-requi
 next-instruction-requires-in-Some-clause-sound c =
     let code = c.args.parts.now in
     let m = machine_of c.steps.frames in
-    let n = to_z w32 (of_z w32 c.in-Int.number) in
-    let between = with_pushed (a_value.Int n) m in
-    let d : ComesToAsk code between = defined_on code m between c.following.ensures.pushes c.steps.invariant.defined in
+    let f = c.operate_on.new.frames in
     let same = c.stores_at_once.ensures.no c.if-stores_at_once.false in
-    let goes = subst (λ (x : Frames). operate c.in-Some.operation (with_pushed (a_value.Int n) (machine_of x)) (a_value.Int n ∷ (machine_of x).top.stack) ≡ Goes (machine_of c.operate_on.new.frames)) same c.operate_on.ensures.goes in
-    let e : step code between ≡ operate c.in-Some.operation between between.top.stack = ap (λ o. act code o between) c.following.ensures.instruction ∙ c.in-Some.ensures.1 code between in
-    let g : step code between ≡ Goes (machine_of c.operate_on.new.frames) = e ∙ goes in
-    defined_on code between (machine_of c.operate_on.new.frames) g d
+    let ran = ran_operator code c.steps.frames c.stores_at_once.new.frames (machine_of f) (to_z w32 (of_z w32 c.in-Int.number)) c.in-Some.operation _ same c.following.ensures.pushes c.following.ensures.instruction (c.in-Some.ensures.1 code) c.operate_on.ensures.goes in
+    ran_defined code 2 m (machine_of f) ran c.steps.invariant.defined
 
 pub steps-smaller-in-Some : goal.steps-smaller-in-Some
 steps-smaller-in-Some c =
     let code = c.args.parts.now in
     let m = machine_of c.steps.frames in
-    let n = to_z w32 (of_z w32 c.in-Int.number) in
-    let between = with_pushed (a_value.Int n) m in
-    let d : ComesToAsk code between = defined_on code m between c.following.ensures.pushes c.steps.invariant.defined in
+    let f = c.operate_on.new.frames in
     let same = c.stores_at_once.ensures.no c.if-stores_at_once.false in
-    let goes = subst (λ (x : Frames). operate c.in-Some.operation (with_pushed (a_value.Int n) (machine_of x)) (a_value.Int n ∷ (machine_of x).top.stack) ≡ Goes (machine_of c.operate_on.new.frames)) same c.operate_on.ensures.goes in
-    let e : step code between ≡ operate c.in-Some.operation between between.top.stack = ap (λ o. act code o between) c.following.ensures.instruction ∙ c.in-Some.ensures.1 code between in
-    let g : step code between ≡ Goes (machine_of c.operate_on.new.frames) = e ∙ goes in
-    let forward = valid_forward code c.requires.valid in
-    let first : weight code between < weight code m = lighter code m between c.steps.instruction.now forward c.steps.invariant.fetched (ap (λ o. act code o m) (sym c.steps.invariant.fetched) ∙ c.following.ensures.pushes) in
-    let second : weight code (machine_of c.operate_on.new.frames) < weight code between = lighter code between (machine_of c.operate_on.new.frames) c.following.result.now forward c.following.ensures.instruction (c.in-Some.ensures.1 code between ∙ goes) in
-    let both : weight code (machine_of c.operate_on.new.frames) < weight code m = omega (arith, first, second) in both
+    let ran = ran_operator code c.steps.frames c.stores_at_once.new.frames (machine_of f) (to_z w32 (of_z w32 c.in-Int.number)) c.in-Some.operation _ same c.following.ensures.pushes c.following.ensures.instruction (c.in-Some.ensures.1 code) c.operate_on.ensures.goes in
+    ran_lighter code 1 m (machine_of f) (valid_forward code c.requires.valid) ran
 
 pub steps-preserved-in-Some : goal.steps-preserved-in-Some
 steps-preserved-in-Some c =
     let code = c.args.parts.now in
     let m = machine_of c.steps.frames in
-    let n = to_z w32 (of_z w32 c.in-Int.number) in
-    let between = with_pushed (a_value.Int n) m in
-    let d : ComesToAsk code between = defined_on code m between c.following.ensures.pushes c.steps.invariant.defined in
+    let f = c.operate_on.new.frames in
     let same = c.stores_at_once.ensures.no c.if-stores_at_once.false in
-    let goes = subst (λ (x : Frames). operate c.in-Some.operation (with_pushed (a_value.Int n) (machine_of x)) (a_value.Int n ∷ (machine_of x).top.stack) ≡ Goes (machine_of c.operate_on.new.frames)) same c.operate_on.ensures.goes in
-    let e : step code between ≡ operate c.in-Some.operation between between.top.stack = ap (λ o. act code o between) c.following.ensures.instruction ∙ c.in-Some.ensures.1 code between in
-    let g : step code between ≡ Goes (machine_of c.operate_on.new.frames) = e ∙ goes in
-    record {
-      fetched = c.next-instruction-in-Some.ensures.instruction;
-      here = ap (instructions_in code) (c.operate_on.ensures.block ∙ c.stores_at_once.ensures.block) ∙ c.steps.invariant.here;
-      within = c.next-instruction-in-Some.ensures.within;
-      fits = c.next-instruction-in-Some.ensures.fits;
-      defined = defined_on code between (machine_of c.operate_on.new.frames) g d;
-      goes_on = λ a f h. c.steps.invariant.goes_on a f (advanced_on code m between a f c.following.ensures.pushes (advanced_on code between (machine_of c.operate_on.new.frames) a f g h));
-    }
+    let ran = ran_operator code c.steps.frames c.stores_at_once.new.frames (machine_of f) (to_z w32 (of_z w32 c.in-Int.number)) c.in-Some.operation _ same c.following.ensures.pushes c.following.ensures.instruction (c.in-Some.ensures.1 code) c.operate_on.ensures.goes in
+    let here = ap (instructions_in code) (c.operate_on.ensures.block ∙ c.stores_at_once.ensures.block) ∙ c.steps.invariant.here in
+    let next = c.next-instruction-in-Some.ensures in
+    works_on code 2 _ _ _ _ f _ _ c.steps.invariant ran here next.instruction next.within next.fits
 
 pub next-instruction-requires-in-Load-clause-sound : goal.next-instruction-requires-in-Load-clause-sound
 next-instruction-requires-in-Load-clause-sound c =
@@ -245,13 +197,8 @@ steps-preserved-in-Load c =
     let code = c.args.parts.now in
     let m = machine_of c.steps.frames in
     let n = machine_of c.load.new.frames in
+    let next = c.next-instruction-in-Load.ensures in
     let l = subst (λ (x : Frames). loads (machine_of x) (slice_get x.top.slots.items c.in-Load.slot) ≡ Goes n) (c.load_at_once.ensures.nothing c.in-Nothing.is) c.in_ok-load.ensures in
-    let e : step code m ≡ Goes n = ap (λ o. act code o m) (c.steps.invariant.fetched ∙ ap Some c.in-Load.is) ∙ l in
-    record {
-      fetched = c.next-instruction-in-Load.ensures.instruction;
-      here = ap (instructions_in code) (stays code m n (instr.Load c.in-Load.slot) refl l) ∙ c.steps.invariant.here;
-      within = c.next-instruction-in-Load.ensures.within;
-      fits = c.next-instruction-in-Load.ensures.fits;
-      defined = defined_on code m n e c.steps.invariant.defined;
-      goes_on = λ a f h. c.steps.invariant.goes_on a f (advanced_on code m n a f e h);
-    }
+    let ran : run code 1 m ≡ Goes n = ran_once code m ∙ ap (λ o. act code o m) (c.steps.invariant.fetched ∙ ap Some c.in-Load.is) ∙ l in
+    let here = ap (instructions_in code) (stays code m n (instr.Load c.in-Load.slot) refl l) ∙ c.steps.invariant.here in
+    works_on code 1 _ _ _ _ c.load.new.frames _ _ c.steps.invariant ran here next.instruction next.within next.fits

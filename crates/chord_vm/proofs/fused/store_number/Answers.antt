@@ -4,7 +4,7 @@ use Rattle.chord_base.specs.declared.value.Value.TheVariants as a_value
 use Rattle.chord_code.specs.Machine.{Frame, Goes, with_top, stores}
 use Rattle.chord_vm.specs.Frames.{machine_of}
 use Rattle.chord_vm.proofs.Slots.{slots_set, slot_within}
-use Rattle.chord_vm.proofs.fused.keep_number.Goals as goal
+use Rattle.chord_vm.proofs.fused.store_number.Goals as goal
 
 pub returns-in-Some-clause-yes : goal.returns-in-Some-clause-yes
 returns-in-Some-clause-yes c = λ yes.
