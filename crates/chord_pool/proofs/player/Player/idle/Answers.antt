@@ -21,7 +21,9 @@ returns-then-counted-2-clause-looked g c = λ _.
     none (look.kept none) (look.through none) (look.next none) (look.knew none) (look.knows none) c.requires.idle refl refl refl (λ other. absurd (cc)) (λ _. look.same.1)
     (λ yes.
     let before = ap counts same.1 ∙ c.read-working.ensures.same.2 ∙ yes in
-    ended_once c.args.self.now.card c.look.new.self.card c.end.new.self (look.as_before none ∙ before) (look.ended before ∙ ap ended same.1 ∙ c.read-working.ensures.ended) c.end.ensures.ended))
+    let now : counts c.look.new.self.card ≡ true = look.as_before none ∙ before in
+    let as_often : ended c.look.new.self.card ≡ ended c.args.self.now.card = look.ended before ∙ ap ended same.1 ∙ c.read-working.ensures.ended in
+    search (rules, ended_once, now, as_often)))
 
 pub returns-clause-looked : goal.returns-clause-looked
 returns-clause-looked g c = λ _.
@@ -87,7 +89,7 @@ returns-then-counted-2-clause-began g c =
     let as_often = ap ended same.1 ∙ c.read-working.ensures.ended in
     let first = began_as c.args.self.now.card c.begin_look.new.self.card as_before as_often in
     began_from (view c.args.self.now.worker.desk) (view c.begin_look.new.self.worker.desk) (view c.look.new.self.worker.desk) (view c.look.new.self.worker.desk)
-    c.args.self.now.card c.begin_look.new.self.card c.look.new.self.card c.end.new.self seen refl as_before first (began_off c.look.new.self.card c.end.new.self c.end.ensures.counts c.end.ensures.ended) c.look.ensures.began
+    c.args.self.now.card c.begin_look.new.self.card c.look.new.self.card _ seen refl as_before first (search (rules, began_off)) c.look.ensures.began
 
 pub returns-then-not-has_task-clause-began : goal.returns-then-not-has_task-clause-began
 returns-then-not-has_task-clause-began g c =
