@@ -4,12 +4,14 @@ use mathlib.Core.Logic.{dite}
 use native.Mathlib.Decide.{ℕ_discrete}
 use Rattle.chord_base.specs.Story.{IsIn}
 use Rattle.chord_rule.specs.declared.view.Look.{Look}
+use Rattle.chord_rule.specs.declared.view.Looked.{Looked}
 use Rattle.chord_rule.specs.declared.view.View.{View}
 use Rattle.chord_rule.specs.Kinds.{saw}
 use Rattle.chord_rule.specs.Tells.{a_word}
 use Rattle.chord_rule.specs.Ways.{LastSeen}
 use Rattle.chord_roll.specs.declared.card.Card.{Card}
 use Rattle.chord_roll.specs.Cards.{counts, ended, last_read}
+use Rattle.chord_roll.specs.Roll.{counted_as}
 use Rattle.chord_space.specs.declared.space.Space.{Space}
 use Rattle.chord_space.specs.Desks.{view}
 use Rattle.chord_task.specs.declared.parcel.Opened.{Opened as Parcel}
@@ -21,7 +23,7 @@ use Rattle.chord_worker.specs.declared.worker.Worker.{Worker}
 use Rattle.chord_worker.specs.Resting.{IsSeen}
 use Rattle.chord_worker.specs.Stepping.{PlaysFiring}
 use Rattle.chord_pool.specs.declared.player.Player.{Player}
-use Rattle.chord_pool.specs.Players.{is_ready, count_ready, AreAmong, AreUnready, FoundNoneBelow, LookedAmong, LookedOnce, LookedThrough, SawUnready, KnowsCount, HasStarted, BeginsLook, HasFound, HasFoundNone, HasLooked}
+use Rattle.chord_pool.specs.Players.{is_ready, count_ready, AreAmong, AreUnready, FoundNoneBelow, LookedAmong, LookedOnce, LookedThrough, BeganForEach, began, SawUnready, KnowsCount, HasStarted, BeginsLook, HasFound, HasFoundNone, HasLooked}
 
 -- a look at a cell that is not ready
 pub seen_once : (v w : View) (i : ℕ) (x : Word) → IsSeen v w i x → x.cell ≢ Ready → SawUnready v w i
@@ -94,6 +96,15 @@ through_twice v u w i x ready seen again = record {
   ready = rw (not_ready again.word.cell again.unready, ready) (omega arith);
 }
 
+-- a look of a start, which read its cell started, or refused
+pub looked_started : (b : Bool) (v w : View) (i : ℕ) → (b ≡ false → LookedOnce i v w) → (x : Word) → (b ≡ true → x.cell ≡ Started) → w.looked ≡ (saw v i x).looked → LookedOnce i v w
+looked_started true v w i refused x started seen = record {
+  word = x;
+  unready = λ e. let z : Started ≡ Ready = sym (started refl) ∙ e in absurd (cc);
+  seen = ap (λ (l : Looked). l.seen) seen;
+}
+looked_started false v w i refused x started seen = refused refl
+
 -- how many looks in two lists read that a firing is ready
 count_ready-append : (xs ys : List Look) → count_ready (xs ++ ys) ≡ count_ready xs + count_ready ys
 count_ready-append [] ys = omega arith
@@ -139,6 +150,95 @@ among_twice u v w i was now = record {
 -- numbers were looked at after something that was no look at a cell
 pub through_from : (u v w : View) (from below : ℕ) → v.looked.seen ≡ u.looked.seen → LookedThrough from below v w → LookedThrough from below u w
 through_from u v w from below same was = record { looks = was.looks; seen = was.seen ∙ ap (λ l. was.looks ++ l) same; among = was.among; in_vain = was.in_vain; ready = was.ready }
+
+-- nothing was looked at, on the same card
+pub began_none : (v : View) (c : Card) → BeganForEach v v c c
+began_none v c = record { looks = []; seen = refl; began_is = as_often (counts c) (began c) }
+  where
+    as_often : (b : Bool) (n : ℕ) → n ≡ n + (if b then 0 else 0)
+    as_often true n = omega arith
+    as_often false n = omega arith
+
+-- one look, in which no firing was ready, on the same card
+pub began_unready : (v w : View) (i : ℕ) (x : Word) (c : Card) → x.cell ≢ Ready → w.looked.seen ≡ record { number = i; word = x } ∷ v.looked.seen → BeganForEach v w c c
+began_unready v w i x c unready seen = record {
+  looks = record { number = i; word = x } ∷ [];
+  seen = seen;
+  began_is = rw (not_ready x.cell unready) (as_often (counts c) (began c));
+}
+  where
+    as_often : (b : Bool) (n : ℕ) → n ≡ n + (if b then 0 else 0)
+    as_often true n = omega arith
+    as_often false n = omega arith
+
+-- a look at a firing that was ready, and one of its start, where the worker began to count if it did not
+pub began_ready : (v u w : View) (i : ℕ) (x : Word) (c d : Card) → x.cell ≡ Ready → u.looked.seen ≡ record { number = i; word = x } ∷ v.looked.seen → LookedOnce i u w
+    → began d ≡ began c + (if counts c then 0 else 1) → BeganForEach v w c d
+began_ready v u w i x c d ready seen again once = record {
+  looks = record { number = i; word = again.word } ∷ record { number = i; word = x } ∷ [];
+  seen = again.seen ∙ ap (λ l. record { number = i; word = again.word } ∷ l) seen;
+  began_is = rw (not_ready again.word.cell again.unready, ready) once;
+}
+
+-- a worker that counted, and was then counted off
+pub ended_once : (c d e : Card) → counts d ≡ true → ended d ≡ ended c → ended e ≡ ended d + counted_as (counts d) → ended e ≡ ended c + 1
+ended_once c d e now as_often once = counted (counts d) (ended c) (ended d) (ended e) now as_often once
+  where
+    counted : (b : Bool) (m n k : ℕ) → b ≡ true → n ≡ m → k ≡ n + counted_as b → k ≡ m + 1
+    counted b m n k now same once = rw (now, same) at once
+
+-- a worker that counts now and was not counted off
+pub began_once : (c d : Card) → counts d ≡ true → ended d ≡ ended c → began d ≡ began c + (if counts c then 0 else 1)
+began_once c d now as_often = counted (counts c) (counts d) (ended c) (ended d) now as_often
+  where
+    counted : (a b : Bool) (m n : ℕ) → b ≡ true → n ≡ m → n + counted_as b ≡ m + counted_as a + (if a then 0 else 1)
+    counted true b m n now same = rw (now, same) (omega arith)
+    counted false b m n now same = rw (now, same) (omega arith)
+
+-- one that did not count, began to, and was counted off
+pub began_and_ended : (c d : Card) → counts c ≡ false → counts d ≡ false → ended d ≡ ended c + 1 → began d ≡ began c + (if counts c then 0 else 1)
+began_and_ended c d not now once = counted (counts c) (counts d) (ended c) (ended d) not now once
+  where
+    counted : (a b : Bool) (m n : ℕ) → a ≡ false → b ≡ false → n ≡ m + 1 → n + counted_as b ≡ m + counted_as a + (if a then 0 else 1)
+    counted a b m n not now once = rw (not, now, once) (omega arith)
+
+-- a worker that counts as before, and was not counted off in between
+pub began_as : (c d : Card) → counts d ≡ counts c → ended d ≡ ended c → began d ≡ began c
+began_as c d same as_often = counted (counts c) (counts d) (ended c) (ended d) same as_often
+  where
+    counted : (a b : Bool) (m n : ℕ) → b ≡ a → n ≡ m → n + counted_as b ≡ m + counted_as a
+    counted a b m n same as_often = rw (same, as_often) refl
+
+-- one that is counted off began no more
+pub began_off : (c d : Card) → counts d ≡ false → ended d ≡ ended c + counted_as (counts c) → began d ≡ began c
+began_off c d not once = counted (counts c) (counts d) (ended c) (ended d) not once
+  where
+    counted : (a b : Bool) (m n : ℕ) → b ≡ false → n ≡ m + counted_as a → n + counted_as b ≡ m + counted_as a
+    counted a b m n not once = rw (not, once) (omega arith)
+
+-- looks, and then more of them by a worker that counts if it counted
+pub began_more : (u v w : View) (c d e : Card) → counts d ≡ counts c → BeganForEach u v c d → BeganForEach v w d e → BeganForEach u w c e
+began_more u v w c d e same was now = record {
+  looks = now.looks ++ was.looks;
+  seen = now.seen ∙ ap (λ l. now.looks ++ l) was.seen ∙ sym (append_assoc now.looks was.looks u.looked.seen);
+  began_is = rw (count_ready-append now.looks was.looks) (both (counts c) (counts d) (began c) (began d) (began e) (count_ready was.looks) (count_ready now.looks) same was.began_is now.began_is);
+}
+  where
+    both : (a b : Bool) (x y z m n : ℕ) → b ≡ a → y ≡ x + (if a then 0 else m) → z ≡ y + (if b then 0 else n) → z ≡ x + (if a then 0 else n + m)
+    both true b x y z m n same first later = let again = rw same at later in omega (arith, first, again)
+    both false b x y z m n same first later = let again = rw same at later in omega (arith, first, again)
+
+-- looks behind something that was no look at a cell, and on other cards, which say the same of when their workers counted
+pub began_from : (u v w x : View) (c d e f : Card) → v.looked.seen ≡ u.looked.seen → x.looked.seen ≡ w.looked.seen → counts d ≡ counts c → began d ≡ began c → began f ≡ began e
+    → BeganForEach v w d e → BeganForEach u x c f
+began_from u v w x c d e f same_before same_after same as_often so_often was = record {
+  looks = was.looks;
+  seen = same_after ∙ was.seen ∙ ap (λ l. was.looks ++ l) same_before;
+  began_is = so_often ∙ moved (counts c) (counts d) (began c) (began d) (began e) (count_ready was.looks) same as_often was.began_is;
+}
+  where
+    moved : (a b : Bool) (x y z n : ℕ) → b ≡ a → y ≡ x → z ≡ y + (if b then 0 else n) → z ≡ x + (if a then 0 else n)
+    moved a b x y z n same as_often later = rw (same, as_often) at later
 
 -- numbers in a row were looked at, and then one more
 pub through_more : (u v w : View) (from i : ℕ) → from ≤ i → LookedThrough from i u v → LookedThrough i (i + 1) v w → LookedThrough from (i + 1) u w
@@ -195,7 +295,7 @@ started_since knows u v w none same started = (started.0, plays_since knows u v 
 pub found_first : (knows : ℕ → Type 0) (x b l y : Player) → b.worker ≡ x.worker → b.known ≡ x.known → BeginsLook x b.place b.misses
     → PlaysFiring knows (view b.worker.desk).kept b.worker.task l.worker l.place → b.place ≤ l.place → AreUnready b.place l.place (view l.worker.desk).looked.seen
     → (counts x.card ≡ false → last_read y.card ≢ Some 0 → l.place < b.known) → y.worker ≡ l.worker → y.place ≡ l.place → y.misses ≡ 0 → (counts x.card ≡ true → ended y.card ≡ ended x.card) → HasFound knows x y
-found_first knows x b l y worker known begins plays onward before fresh same_worker same_place missed on = record {
+found_first knows x b l y worker known begins plays onward before fresh same_worker same_place missed throughout = record {
   from = b.place;
   begins = inl (b.misses, begins);
   onward = subst (λ (n : ℕ). b.place ≤ n) (sym same_place) onward;
@@ -203,7 +303,7 @@ found_first knows x b l y worker known begins plays onward before fresh same_wor
   fresh = λ not unread. let low = fresh not unread in omega (arith, low, same_place, known);
   plays = rw (same_worker, same_place, sym worker) plays;
   misses = missed;
-  on = on;
+  throughout = throughout;
 }
 
 -- a player that did not count, read that nobody is at work, found none and then looked from the first number on, and found a firing: it was l before that look, and z after it
@@ -218,15 +318,16 @@ found_far knows x b l z y worker none kept plays before read same_worker same_pl
   fresh = λ not unread. absurd (unread read);
   plays = rw (same_worker, same_place) (plays_since knows x.worker l.worker z.worker z.place none (kept ∙ ap (λ (w : Worker). (view w.desk).kept) worker) plays);
   misses = missed;
-  on = λ yes. let z : true ≡ false = sym yes ∙ not in absurd (cc);
+  throughout = λ yes. let z : true ≡ false = sym yes ∙ not in absurd (cc);
 }
 
 -- a player that looked and found none, where b is the player as it began to look, and l as it was after it
 pub found_none : (s : Space Parcel) (x b l y : Player) (all : Bool) → b.worker ≡ x.worker → b.known ≡ x.known → BeginsLook x b.place b.misses → all ≡ counts x.card
     → l.worker.task ≡ None → (view l.worker.desk).kept ≡ (view b.worker.desk).kept → LookedThrough b.place (if all then l.known else min b.known l.known) (view b.worker.desk) (view l.worker.desk)
     → l.place ≡ (if all then l.known else min b.known l.known) - 256 → FoundNoneBelow s b.place b.known (view l.worker.desk) → KnowsCount s l → x.worker.task ≡ None
-    → y.worker ≡ l.worker → y.place ≡ l.place → y.known ≡ l.known → (counts x.card ≡ false → b.misses < 32 → y.misses ≡ b.misses + 1) → (counts x.card ≡ true → y.misses ≡ b.misses) → HasFoundNone s x y
-found_none s x b l y all worker known begins as_counted none kept through next unready count idle same_worker same_place same_known missed uncounted = record {
+    → y.worker ≡ l.worker → y.place ≡ l.place → y.known ≡ l.known → (counts x.card ≡ false → b.misses < 32 → y.misses ≡ b.misses + 1) → (counts x.card ≡ true → y.misses ≡ b.misses)
+    → (counts x.card ≡ true → ended y.card ≡ ended x.card + 1) → HasFoundNone s x y
+found_none s x b l y all worker known begins as_counted none kept through next unready count idle same_worker same_place same_known missed uncounted off = record {
   from = b.place;
   misses = b.misses;
   below = if all then l.known else min b.known l.known;
@@ -237,6 +338,7 @@ found_none s x b l y all worker known begins as_counted none kept through next u
   place = same_place ∙ next;
   missed = missed;
   uncounted = uncounted;
+  off = off;
   still = rw same_worker (none ∙ sym idle, kept ∙ ap (λ (w : Worker). (view w.desk).kept) worker);
   knows_count = (count.0, rw same_worker count.1, same_known ∙ count.2);
 }
@@ -251,7 +353,7 @@ looked_by knows s x y k same as_often (inl found) = inl (record {
   fresh = λ not. found.fresh (same ∙ not);
   plays = found.plays;
   misses = found.misses;
-  on = λ yes. found.on (same ∙ yes) ∙ as_often;
+  throughout = λ yes. found.throughout (same ∙ yes) ∙ as_often;
 })
 looked_by knows s x y k same as_often (inr none) = inr (record {
   from = none.from;
@@ -264,6 +366,7 @@ looked_by knows s x y k same as_often (inr none) = inr (record {
   place = none.place;
   missed = λ not. none.missed (same ∙ not);
   uncounted = λ yes. none.uncounted (same ∙ yes);
+  off = λ yes. none.off (same ∙ yes) ∙ ap (λ (n : ℕ). n + 1) as_often;
   still = none.still;
   knows_count = none.knows_count;
 })

@@ -19,7 +19,7 @@ stands_on x y z a b = record { place = b.place ∙ a.place; known = b.known ∙ 
 
 -- a worker counts as before, twice
 counts_on : (c d e : Card) → CountsAsBefore c d → CountsAsBefore d e → CountsAsBefore c e
-counts_on c d e a b = record { same = b.same ∙ a.same; on = b.on ∙ a.on }
+counts_on c d e a b = record { same = b.same ∙ a.same; throughout = b.throughout ∙ a.throughout }
 
 -- nothing happens between two rounds, twice
 between_on : (x y z : Player) → IsBetweenRounds x y → IsBetweenRounds y z → IsBetweenRounds x z
@@ -27,7 +27,7 @@ between_on x y z a b = record { worker = b.worker ∙ a.worker; stands = stands_
 
 -- nothing happens to a player that stays as it is
 pub between_none : (x : Player) → IsBetweenRounds x x
-between_none x = record { worker = refl; stands = record { place = refl; known = refl; misses = refl }; counted = record { same = refl; on = refl } }
+between_none x = record { worker = refl; stands = record { place = refl; known = refl; misses = refl }; counted = record { same = refl; throughout = refl } }
 
 -- nor does it behind rounds
 rounds_stay : (knows : ℕ → Type 0) (s : Space Parcel) (x y z : Player) (ys : List Player) → AreRounds knows s x ys y → IsBetweenRounds y z → AreRounds knows s x ys z

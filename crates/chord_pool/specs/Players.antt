@@ -9,6 +9,7 @@ use Rattle.chord_rule.specs.declared.view.View.{View}
 use Rattle.chord_rule.specs.Ways.{LastSeen}
 use Rattle.chord_roll.specs.declared.card.Card.{Card}
 use Rattle.chord_roll.specs.Cards.{counts, ended, hired, last_read, stops, roll_of, IsFirstCard, IsSameCard}
+use Rattle.chord_roll.specs.Roll.{counted_as}
 use Rattle.chord_space.specs.declared.space.Space.{Space}
 use Rattle.chord_space.specs.Desks.{view, space_code, space_limits, program_of}
 use Rattle.chord_task.specs.declared.parcel.Opened.{Opened as Parcel}
@@ -50,10 +51,14 @@ TellsIfItFails x = x.failed ≡ true → stops x.card ≡ true
 abbrev pub CountsIfItPlays : Player → Type 0
 CountsIfItPlays x = x.worker.task ≢ None → counts x.card ≡ true
 
+-- how often the worker of a card began to count among those at work
+abbrev pub began : Card → ℕ
+began c = ended c + counted_as (counts c)
+
 -- whether the worker counts is as it was, and it was not counted off in between
 pub record CountsAsBefore (c d : Card) : Type 0 where
   pub same : counts d ≡ counts c
-  pub on : ended d ≡ ended c
+  pub throughout : ended d ≡ ended c
 
 -- the cell i was last seen in another state than ready
 abbrev pub IsUnready : ℕ → List Look → Type 0
@@ -97,6 +102,12 @@ pub record LookedThrough (from below : ℕ) (v w : View) : Type 0 where
   pub among : AreAmong from below looks
   pub in_vain : length looks ≡ (below - from) + count_ready looks
   pub ready : count_ready looks ≤ below - from
+
+-- between these views and cards a worker that did not count began to count once for each look that read a firing ready, and one that counted began no more
+pub record BeganForEach (v w : View) (c d : Card) : Type 0 where
+  pub looks : List Look
+  pub seen : w.looked.seen ≡ looks ++ v.looked.seen
+  pub began_is : began d ≡ began c + (if counts c then 0 else count_ready looks)
 
 -- the desk looked at the counter, and last saw no firing ready among the numbers that are given, from `from` up to below `below`
 pub record FoundNoneBelow (s : Space Parcel) (from below : ℕ) (v : View) : Type 0 where
@@ -161,9 +172,9 @@ pub record HasFound (knows : ℕ → Type 0) (x y : Player) : Type 0 where
   pub fresh : counts x.card ≡ false → last_read y.card ≢ Some 0 → y.place < x.known
   pub plays : PlaysFiring knows (view x.worker.desk).kept x.worker.task y.worker y.place
   pub misses : y.misses ≡ 0
-  pub on : counts x.card ≡ true → ended y.card ≡ ended x.card
+  pub throughout : counts x.card ≡ true → ended y.card ≡ ended x.card
 
--- a player that had no task has none and keeps what it kept: it looked at the numbers from where its look begins up to those that it knew of, or all that are given if it counts, found no firing to start there, goes on at most 256 below their end, and knows how many are given now
+-- a player that had no task has none and keeps what it kept: it looked at the numbers from where its look begins up to those that it knew of, or all that are given if it counts, found no firing to start there, was counted off once if it counted, goes on at most 256 below their end, and knows how many are given now
 pub record HasFoundNone (s : Space Parcel) (x y : Player) : Type 0 where
   pub from : ℕ
   pub misses : ℕ
@@ -175,6 +186,7 @@ pub record HasFoundNone (s : Space Parcel) (x y : Player) : Type 0 where
   pub place : y.place ≡ below - 256
   pub missed : counts x.card ≡ false → misses < 32 → y.misses ≡ misses + 1
   pub uncounted : counts x.card ≡ true → y.misses ≡ misses
+  pub off : counts x.card ≡ true → ended y.card ≡ ended x.card + 1
   pub still : StillPlays (view x.worker.desk).kept x.worker.task y.worker
   pub knows_count : KnowsCount s y
 
@@ -182,7 +194,7 @@ pub record HasFoundNone (s : Space Parcel) (x y : Player) : Type 0 where
 abbrev pub HasLooked : (ℕ → Type 0) → Space Parcel → Player → Player → Type 0
 HasLooked knows s x y = HasFound knows x y ⊎ HasFoundNone s x y
 
--- a player went on with its task and counted all the while, drew entries of the body on top and at most one firing, plays no other task but a body of which the gate knows, and stands where it stood, or it looked for a firing
+-- a player went on with its task and counted all the while, drew entries of the body on top and at most one firing, plays no other task but a body of which the gate knows, and stands where it stood, or it looked for a firing, and if it did not count it began to once for each that it read ready
 pub record HadARound (knows : ℕ → Type 0) (s : Space Parcel) (x y : Player) : Type 0 where
   pub went : (t : Task) → x.worker.task ≡ Some t → HasGoneOn (view x.worker.desk).kept t y.worker
   pub plays : (t : Task) → x.worker.task ≡ Some t → PlaysNext knows (view x.worker.desk).kept t y.worker
@@ -190,6 +202,7 @@ pub record HadARound (knows : ℕ → Type 0) (s : Space Parcel) (x y : Player) 
   pub stands : (t : Task) → x.worker.task ≡ Some t → StandsStill x y
   pub counted : (t : Task) → x.worker.task ≡ Some t → (counts x.card ≡ true) × CountsAsBefore x.card y.card
   pub looked : x.worker.task ≡ None → HasLooked knows s x y
+  pub began_so : x.worker.task ≡ None → BeganForEach (view x.worker.desk) (view y.worker.desk) x.card y.card
 
 -- it has the same card, and plays at the same desk unless it fails
 abbrev pub PlaysOn : Player → Player → Type 0

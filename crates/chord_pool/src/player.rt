@@ -6,7 +6,7 @@ ghost use Rattle.chord_space.specs.Desks.{view};
 ghost use Rattle.chord_task.specs.declared.task.Task.{Task as TheTask};
 ghost use Rattle.chord_worker.specs.Resting.{IsSameRole, LastSawReady};
 ghost use Rattle.chord_worker.specs.Stepping.{DrewAStep, HasGoneOn, PlaysBody, PlaysNext, PlaysFiring, StillPlays};
-ghost use Rattle.chord_pool.specs.Players.{IsOneRun, IsFit, AreUnready, FoundNoneBelow, FoundNone, SawUnready, LookedAmong, LookedOnce, LookedThrough, KnowsCount, HasStarted, StandsStill, BeginsLook, HasLooked, HadARound, HadRounds, IsBetweenRounds, HasLeftOff, MayPlay, HasPlayed, PlaysOn, IsOnTheWay, CountsIfItPlays, TellsIfItFails};
+ghost use Rattle.chord_pool.specs.Players.{IsOneRun, IsFit, AreUnready, FoundNoneBelow, FoundNone, SawUnready, LookedAmong, LookedOnce, LookedThrough, BeganForEach, KnowsCount, HasStarted, StandsStill, BeginsLook, HasLooked, HadARound, HadRounds, IsBetweenRounds, HasLeftOff, MayPlay, HasPlayed, PlaysOn, IsOnTheWay, CountsIfItPlays, TellsIfItFails};
 
 use crate::crowd::Crowd;
 use crate::pause::Pause;
@@ -61,7 +61,7 @@ fn start_at_work<'a, G: Gate>(
     ensures plays { result ≡ true → PlaysFiring G.knows (view worker.old.desk).kept worker.old.task worker.new i }
     ensures refused { result ≡ false → SawUnready (view worker.old.desk) (view worker.new.desk) i }
     ensures among { LookedAmong i (i + 1) (view worker.old.desk) (view worker.new.desk) }
-    ensures once { result ≡ false → LookedOnce i (view worker.old.desk) (view worker.new.desk) }
+    ensures once { LookedOnce i (view worker.old.desk) (view worker.new.desk) }
 {
     // the card is here so that a condition can speak of it
     let _ = card.is_at_work();
@@ -88,6 +88,8 @@ fn try_start<'a, G: Gate>(
     ensures counts { result ≡ true → counts card.new ≡ true }
     ensures as_before { result ≡ false → counts card.new ≡ counts card.old }
     ensures ended { counts card.old ≡ true → ended card.new ≡ ended card.old }
+    ensures throughout { result ≡ true → ended card.new ≡ ended card.old }
+    ensures began { BeganForEach (view worker.old.desk) (view worker.new.desk) card.old card.new }
     ensures plays { result ≡ true → PlaysFiring G.knows (view worker.old.desk).kept worker.old.task worker.new i }
     ensures seen { result ≡ false → SawUnready (view worker.old.desk) (view worker.new.desk) i }
     ensures among { LookedAmong i (i + 1) (view worker.old.desk) (view worker.new.desk) }
@@ -128,6 +130,7 @@ fn sweep<'a, G: Gate>(
     ensures counts { is_some result ≡ true → counts card.new ≡ true }
     ensures as_before { IfNone result (counts card.new ≡ counts card.old) }
     ensures ended { counts card.old ≡ true → ended card.new ≡ ended card.old }
+    ensures began { BeganForEach (view worker.old.desk) (view worker.new.desk) card.old card.new }
     ensures started { is_some result ≡ true → HasStarted G.knows worker.old worker.new }
     ensures kept { IfNone result ((view worker.new.desk).kept ≡ (view worker.old.desk).kept) }
     ensures count { IfNone result ((view worker.new.desk).looked.count ≡ (view worker.old.desk).looked.count) }
@@ -166,6 +169,7 @@ fn find_work<'a, G: Gate>(
     ensures counts { worker.new.task ≢ None → counts card.new ≡ true }
     ensures as_before { worker.new.task ≡ None → counts card.new ≡ counts card.old }
     ensures ended { counts card.old ≡ true → ended card.new ≡ ended card.old }
+    ensures began { BeganForEach (view worker.old.desk) (view worker.new.desk) card.old card.new }
     ensures started { worker.new.task ≢ None → HasStarted G.knows worker.old worker.new }
     ensures kept { worker.new.task ≡ None → (view worker.new.desk).kept ≡ (view worker.old.desk).kept }
     ensures count { worker.new.task ≡ None → (view worker.new.desk).looked.count ≡ (view worker.old.desk).looked.count }
@@ -264,6 +268,7 @@ impl Player {
         ensures counts { self.new.worker.task ≢ None → counts self.new.card ≡ true }
         ensures as_before { self.new.worker.task ≡ None → counts self.new.card ≡ counts self.old.card }
         ensures ended { counts self.old.card ≡ true → ended self.new.card ≡ ended self.old.card }
+        ensures began { BeganForEach (view self.old.worker.desk) (view self.new.worker.desk) self.old.card self.new.card }
         ensures started { self.new.worker.task ≢ None → HasStarted G.knows self.old.worker self.new.worker }
         ensures kept { self.new.worker.task ≡ None → (view self.new.worker.desk).kept ≡ (view self.old.worker.desk).kept }
         ensures all { among_all ≡ true → last_read self.old.card ≡ Some 0 → self.new.worker.task ≡ None → FoundNone run.now.space.now self.old.place (view self.new.worker.desk) }
@@ -305,6 +310,7 @@ impl Player {
         ensures same { self.new.failed ≡ self.old.failed }
         ensures card { HasReadNothing self.old.card self.new.card }
         ensures stops { stops self.new.card ≡ stops self.old.card }
+        ensures began { BeganForEach (view self.old.worker.desk) (view self.new.worker.desk) self.old.card self.new.card }
         ensures counts { self.new.worker.task ≢ None → counts self.new.card ≡ true }
         ensures started { self.new.worker.task ≢ None → HasStarted G.knows self.old.worker self.new.worker }
         ensures kept { self.new.worker.task ≡ None → (view self.new.worker.desk).kept ≡ (view self.old.worker.desk).kept }
@@ -347,6 +353,7 @@ impl Player {
         ensures off { result ≡ false → StillPlays (view self.old.worker.desk).kept self.old.worker.task self.new.worker }
         ensures counts { result ≡ true → counts self.new.card ≡ is_some self.new.worker.task }
         ensures heard { stops self.new.card ≡ stops self.old.card }
+        ensures began { BeganForEach (view self.old.worker.desk) (view self.new.worker.desk) self.old.card self.new.card }
         ensures stays { counts self.old.card ≡ true → result ≡ true }
     {
         // Read before the look: what is posted later is posted by a worker that is at work now, or by one of those whose work
@@ -357,6 +364,7 @@ impl Player {
         let counted = self.card.is_at_work();
         self.look(run, gate, counted || working == 0);
         if self.worker.has_task() {
+            // It counts since before it started the firing.
             return self.found(pause);
         }
         if counted {

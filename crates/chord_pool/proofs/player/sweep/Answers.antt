@@ -1,7 +1,7 @@
 use Rattle.std.proofs.Common.{◌+◌, ◌∙◌, refl, sym, arith}
 use Rattle.chord_space.specs.Desks.{view}
 use Rattle.chord_pool.proofs.Endings.{role_stays}
-use Rattle.chord_pool.proofs.Looking.{none_there, unready_more, through_more, through_all, plays_since, unready_stay}
+use Rattle.chord_pool.proofs.Looking.{none_there, unready_more, through_more, through_all, plays_since, unready_stay, began_more}
 use Rattle.chord_pool.proofs.player.sweep.Goals as goal
 
 pub loop-i-preserved : goal.loop-i-preserved
@@ -18,7 +18,8 @@ loop-i-preserved g c =
       saw_it.kept ∙ was.8,
       (let within = c.loop-i-test.true in omega (arith, within)),
       through_more (view c.args.worker.now.desk) (view c.loop-i.worker.desk) (view c.try_start.new.worker.desk) c.args.from c.loop-i.i c.loop-i.auto.i was.10 (now.through refl),
-      λ yes. now.ended (was.5 ∙ yes) ∙ was.11 yes,
+      (λ yes. now.ended (was.5 ∙ yes) ∙ was.11 yes),
+      began_more (view c.args.worker.now.desk) (view c.loop-i.worker.desk) (view c.try_start.new.worker.desk) c.args.card.now c.loop-i.card c.try_start.new.card was.5 was.12 now.began,
     )
 
 pub returns-then-try_start-clause-started : goal.returns-then-try_start-clause-started
@@ -38,3 +39,7 @@ returns-then-try_start-clause-ended g c = λ yes. c.if-try_start.ensures.ended (
 
 pub returns-clause-through : goal.returns-clause-through
 returns-clause-through g c = through_all (view c.args.worker.now.desk) (view c.loop-i.worker.desk) c.args.from c.loop-i.i c.args.below c.loop-i-test.false c.loop-i.invariant.9 c.loop-i.invariant.10
+
+pub returns-then-try_start-clause-began : goal.returns-then-try_start-clause-began
+returns-then-try_start-clause-began g c =
+    began_more (view c.args.worker.now.desk) (view c.loop-i.worker.desk) (view c.try_start.new.worker.desk) c.args.card.now c.loop-i.card c.try_start.new.card c.loop-i.invariant.5 c.loop-i.invariant.12 c.if-try_start.ensures.began

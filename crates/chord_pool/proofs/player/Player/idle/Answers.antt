@@ -1,8 +1,11 @@
-use Rattle.std.proofs.Common.{◌≡◌, ◌∙◌, refl, sym, ap, true, false, Some, inl, inr, arith}
+use Rattle.std.proofs.Common.{◌≡◌, ◌∙◌, refl, sym, ap, true, false, Some, inl, inr, rules, arith}
 use Rattle.std.proofs.lemmas.Bool.{ne_eqb}
 use Rattle.chord_roll.specs.Cards.{counts, ended, last_read}
-use Rattle.chord_pool.proofs.Looking.{none_there, found_first, found_far, found_none}
+use Rattle.chord_pool.specs.Players.{began}
+use Rattle.chord_pool.proofs.Looking.{none_there, found_first, found_far, found_none, began_as, began_off, began_more, began_from, ended_once}
 use Rattle.chord_pool.proofs.Endings.{task_started}
+use Rattle.chord_space.specs.Desks.{view}
+use Rattle.chord_worker.specs.declared.worker.Worker.{Worker}
 use Rattle.chord_pool.proofs.player.Player.idle.Goals as goal
 use Rattle.chord_pool.proofs.player.Player.idle.Goals.{then-counted, else-counted}
 
@@ -15,7 +18,12 @@ returns-then-counted-2-clause-looked g c = λ _.
     let counted : counts c.args.self.now.card ≡ true = sym c.read-working.ensures.same.2 ∙ sym (ap counts same.1) ∙ sym c.if-counted-2.ensures in
     let all : c.if-counted.look ≡ true = elim c.if-counted.branch [ then-counted w ↦ w.look-is ∙ c.if-counted-2.true | else-counted w ↦ absurd (cc) ] in
     inr (found_none c.args.run.now.space.now c.args.self.now c.begin_look.new.self c.look.new.self _ c.if-counted.look same.0 same.3 (record { near = begins.near; far = begins.far }) (all ∙ sym counted)
-    none (look.kept none) (look.through none) (look.next none) (look.knew none) (look.knows none) c.requires.idle refl refl refl (λ other. absurd (cc)) (λ _. look.same.1))
+    none (look.kept none) (look.through none) (look.next none) (look.knew none) (look.knows none) c.requires.idle refl refl refl (λ other. absurd (cc)) (λ _. look.same.1)
+    (λ yes.
+    let before = ap counts same.1 ∙ c.read-working.ensures.same.2 ∙ yes in
+    let now : counts c.look.new.self.card ≡ true = look.as_before none ∙ before in
+    let as_often : ended c.look.new.self.card ≡ ended c.args.self.now.card = look.ended before ∙ ap ended same.1 ∙ c.read-working.ensures.ended in
+    search (rules, ended_once, now, as_often)))
 
 pub returns-clause-looked : goal.returns-clause-looked
 returns-clause-looked g c = λ _.
@@ -26,7 +34,7 @@ returns-clause-looked g c = λ _.
     let counted : counts c.args.self.now.card ≡ false = sym c.read-working.ensures.same.2 ∙ sym (ap counts same.1) ∙ sym c.if-counted-2.ensures in
     let all : c.if-counted.look ≡ false = elim c.if-counted.branch [ then-counted w ↦ absurd (cc) | else-counted w ↦ w.look-is ∙ ne_eqb c.read-working.result 0 c.if-working-eq0.false ] in
     inr (found_none c.args.run.now.space.now c.args.self.now c.begin_look.new.self c.look.new.self _ c.if-counted.look same.0 same.3 (record { near = begins.near; far = begins.far }) (all ∙ sym counted)
-    none (look.kept none) (look.through none) (look.next none) (look.knew none) (look.knows none) c.requires.idle refl refl refl (λ _ few. let more = c.saturating_add-self.ensures in let before = look.same.1 in omega (arith, more, before, few)) (λ other. absurd (cc)))
+    none (look.kept none) (look.through none) (look.next none) (look.knew none) (look.knows none) c.requires.idle refl refl refl (λ _ few. let more = c.saturating_add-self.ensures in let before = look.same.1 in omega (arith, more, before, few)) (λ other. absurd (cc)) (λ other. absurd (cc)))
 
 pub returns-then-has_task-clause-looked : goal.returns-then-has_task-clause-looked
 returns-then-has_task-clause-looked g c = λ _.
@@ -35,7 +43,7 @@ returns-then-has_task-clause-looked g c = λ _.
     let look = c.look.ensures in
     let found = c.found.ensures in
     let some = task_started c.look.new.self.worker.task (sym c.has_task.ensures ∙ c.if-has_task.true) in
-    let read : last_read c.found.new.self.card ≡ Some c.read-working.result = ap last_read found.same.3 ∙ look.card.1 ∙ ap last_read same.1 ∙ c.read-working.ensures.read in
+    let read : last_read c.found.new.self.card ≡ Some c.read-working.result = search rules in
     inl (found_first g.G.Gate.knows c.args.self.now c.begin_look.new.self c.look.new.self c.found.new.self same.0 same.3 (record { near = begins.near; far = begins.far })
     (look.plays some) (look.onward some) (look.before some)
     (λ not unread.
@@ -43,7 +51,10 @@ returns-then-has_task-clause-looked g c = λ _.
     let all : c.if-counted.look ≡ false = elim c.if-counted.branch [ then-counted w ↦ absurd (cc) | else-counted w ↦ w.look-is ∙ ne_eqb c.read-working.result 0 (λ e. unread (read ∙ ap Some e)) ] in
     look.fresh some all)
     found.same.0 found.same.2 found.misses
-    (λ yes. ap ended found.same.3 ∙ look.ended (ap counts same.1 ∙ c.read-working.ensures.same.2 ∙ yes) ∙ ap ended same.1 ∙ c.read-working.ensures.ended))
+    (λ yes.
+    let before = look.ended (ap counts same.1 ∙ c.read-working.ensures.same.2 ∙ yes) in
+    let throughout : ended c.found.new.self.card ≡ ended c.args.self.now.card = search (rules, before) in
+    throughout))
 
 pub returns-then-working-eq0-clause-looked : goal.returns-then-working-eq0-clause-looked
 returns-then-working-eq0-clause-looked g c = λ _.
@@ -57,3 +68,64 @@ returns-then-working-eq0-clause-looked g c = λ _.
     inl (found_far g.G.Gate.knows c.args.self.now c.begin_look.new.self c.look.new.self c.look_far.new.self c.found-then-working-eq0.new.self same.0 c.requires.idle (look.kept none)
     (far.plays some) (far.before some) read found.same.0 found.same.2 found.misses
     (sym c.read-working.ensures.same.2 ∙ sym (ap counts same.1) ∙ sym c.if-counted-2.ensures))
+
+pub returns-then-has_task-clause-began : goal.returns-then-has_task-clause-began
+returns-then-has_task-clause-began g c =
+    let same = c.begin_look.ensures.same in
+    let seen = ap (λ (w : Worker). (view w.desk).looked.seen) same.0 in
+    let as_before = ap counts same.1 ∙ c.read-working.ensures.same.2 in
+    let as_often = ap ended same.1 ∙ c.read-working.ensures.ended in
+    let first = began_as c.args.self.now.card c.begin_look.new.self.card as_before as_often in
+    let found = c.found.ensures.same in
+    let no_more : began c.found.new.self.card ≡ began c.look.new.self.card = began_as c.look.new.self.card c.found.new.self.card (search rules) (search rules) in
+    began_from (view c.args.self.now.worker.desk) (view c.begin_look.new.self.worker.desk) (view c.look.new.self.worker.desk) (view c.found.new.self.worker.desk)
+    c.args.self.now.card c.begin_look.new.self.card c.look.new.self.card c.found.new.self.card seen (ap (λ (w : Worker). (view w.desk).looked.seen) found.0) as_before first no_more c.look.ensures.began
+
+pub returns-then-counted-2-clause-began : goal.returns-then-counted-2-clause-began
+returns-then-counted-2-clause-began g c =
+    let same = c.begin_look.ensures.same in
+    let seen = ap (λ (w : Worker). (view w.desk).looked.seen) same.0 in
+    let as_before = ap counts same.1 ∙ c.read-working.ensures.same.2 in
+    let as_often = ap ended same.1 ∙ c.read-working.ensures.ended in
+    let first = began_as c.args.self.now.card c.begin_look.new.self.card as_before as_often in
+    began_from (view c.args.self.now.worker.desk) (view c.begin_look.new.self.worker.desk) (view c.look.new.self.worker.desk) (view c.look.new.self.worker.desk)
+    c.args.self.now.card c.begin_look.new.self.card c.look.new.self.card _ seen refl as_before first (search (rules, began_off)) c.look.ensures.began
+
+pub returns-then-not-has_task-clause-began : goal.returns-then-not-has_task-clause-began
+returns-then-not-has_task-clause-began g c =
+    let same = c.begin_look.ensures.same in
+    let seen = ap (λ (w : Worker). (view w.desk).looked.seen) same.0 in
+    let as_before = ap counts same.1 ∙ c.read-working.ensures.same.2 in
+    let as_often = ap ended same.1 ∙ c.read-working.ensures.ended in
+    let first = began_as c.args.self.now.card c.begin_look.new.self.card as_before as_often in
+    let none = none_there c.look.new.self.worker.task (sym c.has_task.ensures ∙ c.if-has_task.false) in
+    let far = view c.look_far.new.self.worker.desk in
+    began_from (view c.args.self.now.worker.desk) (view c.begin_look.new.self.worker.desk) far far
+    c.args.self.now.card c.begin_look.new.self.card c.look_far.new.self.card c.look_far.new.self.card seen refl as_before first refl
+    (began_more (view c.begin_look.new.self.worker.desk) (view c.look.new.self.worker.desk) far c.begin_look.new.self.card c.look.new.self.card c.look_far.new.self.card
+    (c.look.ensures.as_before none) c.look.ensures.began c.look_far.ensures.began)
+
+pub returns-then-working-eq0-clause-began : goal.returns-then-working-eq0-clause-began
+returns-then-working-eq0-clause-began g c =
+    let same = c.begin_look.ensures.same in
+    let seen = ap (λ (w : Worker). (view w.desk).looked.seen) same.0 in
+    let as_before = ap counts same.1 ∙ c.read-working.ensures.same.2 in
+    let as_often = ap ended same.1 ∙ c.read-working.ensures.ended in
+    let first = began_as c.args.self.now.card c.begin_look.new.self.card as_before as_often in
+    let none = none_there c.look.new.self.worker.task (sym c.has_task.ensures ∙ c.if-has_task.false) in
+    let found = c.found-then-working-eq0.ensures.same in
+    let far = view c.look_far.new.self.worker.desk in
+    began_from (view c.args.self.now.worker.desk) (view c.begin_look.new.self.worker.desk) far (view c.found-then-working-eq0.new.self.worker.desk)
+    c.args.self.now.card c.begin_look.new.self.card c.look_far.new.self.card c.found-then-working-eq0.new.self.card seen (ap (λ (w : Worker). (view w.desk).looked.seen) found.0) as_before first (ap began found.3)
+    (began_more (view c.begin_look.new.self.worker.desk) (view c.look.new.self.worker.desk) far c.begin_look.new.self.card c.look.new.self.card c.look_far.new.self.card
+    (c.look.ensures.as_before none) c.look.ensures.began c.look_far.ensures.began)
+
+pub returns-clause-began : goal.returns-clause-began
+returns-clause-began g c =
+    let same = c.begin_look.ensures.same in
+    let seen = ap (λ (w : Worker). (view w.desk).looked.seen) same.0 in
+    let as_before = ap counts same.1 ∙ c.read-working.ensures.same.2 in
+    let as_often = ap ended same.1 ∙ c.read-working.ensures.ended in
+    let first = began_as c.args.self.now.card c.begin_look.new.self.card as_before as_often in
+    began_from (view c.args.self.now.worker.desk) (view c.begin_look.new.self.worker.desk) (view c.look.new.self.worker.desk) (view c.look.new.self.worker.desk)
+    c.args.self.now.card c.begin_look.new.self.card c.look.new.self.card c.look.new.self.card seen refl as_before first refl c.look.ensures.began

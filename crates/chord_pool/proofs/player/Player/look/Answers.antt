@@ -1,6 +1,7 @@
-use Rattle.std.proofs.Common.{ap, ◌∙◌}
+use Rattle.std.proofs.Common.{ap, refl, ◌∙◌}
 use Rattle.chord_rule.specs.declared.view.View.{View}
-use Rattle.chord_pool.proofs.Looking.{started_since, plays_since}
+use Rattle.chord_space.specs.Desks.{view}
+use Rattle.chord_pool.proofs.Looking.{started_since, plays_since, began_from}
 use Rattle.chord_pool.proofs.player.Player.look.Goals as goal
 
 pub returns-clause-started : goal.returns-clause-started
@@ -13,3 +14,9 @@ returns-clause-kept g c = λ none. c.find_work-self.ensures.kept none ∙ ap (λ
 pub returns-clause-plays : goal.returns-clause-plays
 returns-clause-plays g c = λ some.
     plays_since g.G.Gate.knows c.args.self.now.worker c.count-count.new.self c.find_work-self.new.worker c.find_work-self.result c.requires.idle (ap (λ (v : View). v.kept) c.count-count.ensures.counted.2) (c.find_work-self.ensures.plays some)
+
+pub returns-clause-began : goal.returns-clause-began
+returns-clause-began g c =
+    let after = view c.find_work-self.new.worker.desk in
+    began_from (view c.args.self.now.worker.desk) (view c.count-count.new.self.desk) after after c.args.self.now.card c.args.self.now.card c.find_work-self.new.card c.find_work-self.new.card
+    (ap (λ (v : View). v.looked.seen) c.count-count.ensures.counted.2) refl refl refl refl c.find_work-self.ensures.began

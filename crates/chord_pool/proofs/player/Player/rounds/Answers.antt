@@ -5,7 +5,7 @@ use Rattle.chord_pool.proofs.Rounds.{no_rounds, one_round_more, left_off_there}
 use Rattle.chord_pool.proofs.player.Player.rounds.Goals as goal
 
 pub loop-round-init : goal.loop-round-init
-loop-round-init g c = (search rules, search rules, search rules, search rules, search rules, search rules, no_rounds g.G.Gate.knows c.args.run.now.space.now c.args.self.now _ (record { worker = refl; stands = record { place = refl; known = refl; misses = refl }; counted = record { same = search rules; on = search rules } }))
+loop-round-init g c = (search rules, search rules, search rules, search rules, search rules, search rules, no_rounds g.G.Gate.knows c.args.run.now.space.now c.args.self.now _ (record { worker = refl; stands = record { place = refl; known = refl; misses = refl }; counted = record { same = search rules; throughout = search rules } }))
 
 pub loop-round-preserved : goal.loop-round-preserved
 loop-round-preserved g c =
@@ -29,4 +29,4 @@ pub returns-then-not-round-clause-off : goal.returns-then-not-round-clause-off
 returns-then-not-round-clause-off g c = λ _. record { last = c.loop-round.self; had = c.loop-round.invariant.6; off = c.if-not-round.ensures.off refl }
 
 pub returns-then-self-clause-off : goal.returns-then-self-clause-off
-returns-then-self-clause-off g c = λ _. left_off_there g.G.Gate.knows c.args.run.now.space.now c.args.self.now _ (no_rounds g.G.Gate.knows c.args.run.now.space.now c.args.self.now _ (record { worker = refl; stands = record { place = refl; known = refl; misses = refl }; counted = record { same = search rules; on = search rules } }))
+returns-then-self-clause-off g c = λ _. left_off_there g.G.Gate.knows c.args.run.now.space.now c.args.self.now _ (no_rounds g.G.Gate.knows c.args.run.now.space.now c.args.self.now _ (record { worker = refl; stands = record { place = refl; known = refl; misses = refl }; counted = record { same = search rules; throughout = search rules } }))
