@@ -240,6 +240,10 @@ began_from u v w x c d e f same_before same_after same as_often so_often was = r
     moved : (a b : Bool) (x y z n : ℕ) → b ≡ a → y ≡ x → z ≡ y + (if b then 0 else n) → z ≡ x + (if a then 0 else n)
     moved a b x y z n same as_often later = rw (same, as_often) at later
 
+-- nothing was looked at after looks, and the worker began no more
+pub began_on : (u v w : View) (c d e : Card) → w.looked.seen ≡ v.looked.seen → began e ≡ began d → BeganForEach u v c d → BeganForEach u w c e
+began_on u v w c d e same as_often was = record { looks = was.looks; seen = same ∙ was.seen; began_is = as_often ∙ was.began_is }
+
 -- numbers in a row were looked at, and then one more
 pub through_more : (u v w : View) (from i : ℕ) → from ≤ i → LookedThrough from i u v → LookedThrough i (i + 1) v w → LookedThrough from (i + 1) u w
 through_more u v w from i low was one = record {
@@ -326,7 +330,7 @@ pub found_none : (s : Space Parcel) (x b l y : Player) (all : Bool) → b.worker
     → l.worker.task ≡ None → (view l.worker.desk).kept ≡ (view b.worker.desk).kept → LookedThrough b.place (if all then l.known else min b.known l.known) (view b.worker.desk) (view l.worker.desk)
     → l.place ≡ (if all then l.known else min b.known l.known) - 256 → FoundNoneBelow s b.place b.known (view l.worker.desk) → KnowsCount s l → x.worker.task ≡ None
     → y.worker ≡ l.worker → y.place ≡ l.place → y.known ≡ l.known → (counts x.card ≡ false → b.misses < 32 → y.misses ≡ b.misses + 1) → (counts x.card ≡ true → y.misses ≡ b.misses)
-    → (counts x.card ≡ true → ended y.card ≡ ended x.card + 1) → HasFoundNone s x y
+    → counts y.card ≡ false → HasFoundNone s x y
 found_none s x b l y all worker known begins as_counted none kept through next unready count idle same_worker same_place same_known missed uncounted off = record {
   from = b.place;
   misses = b.misses;
@@ -366,7 +370,7 @@ looked_by knows s x y k same as_often (inr none) = inr (record {
   place = none.place;
   missed = λ not. none.missed (same ∙ not);
   uncounted = λ yes. none.uncounted (same ∙ yes);
-  off = λ yes. none.off (same ∙ yes) ∙ ap (λ (n : ℕ). n + 1) as_often;
+  off = none.off;
   still = none.still;
   knows_count = none.knows_count;
 })

@@ -1,12 +1,13 @@
 //! A worker at its thread: it plays what it has, and looks for more.
 ghost use Rattle.std.specs.Prelude.{◌≡◌, ◌≢◌, ◌<◌, ◌≤◌, ◌+◌, ◌-◌, true, false, if◌then◌else◌, min, None, Some, is_some, IfNone, IfSome};
 ghost use Rattle.chord_roll.specs.Cards.{counts, ended, last_read, stops, HasReadNothing, IsSameCard};
+ghost use Rattle.chord_roll.specs.Roll.{counted_as};
 ghost use Rattle.chord_pool.specs.declared.player.Player.{Player as ThePlayer};
 ghost use Rattle.chord_space.specs.Desks.{view};
 ghost use Rattle.chord_task.specs.declared.task.Task.{Task as TheTask};
 ghost use Rattle.chord_worker.specs.Resting.{IsSameRole, LastSawReady};
 ghost use Rattle.chord_worker.specs.Stepping.{DrewAStep, HasGoneOn, PlaysBody, PlaysNext, PlaysFiring, StillPlays};
-ghost use Rattle.chord_pool.specs.Players.{IsOneRun, IsFit, AreUnready, FoundNoneBelow, FoundNone, SawUnready, LookedAmong, LookedOnce, LookedThrough, BeganForEach, KnowsCount, HasStarted, StandsStill, BeginsLook, HasLooked, HadARound, HadRounds, IsBetweenRounds, HasLeftOff, MayPlay, HasPlayed, PlaysOn, IsOnTheWay, CountsIfItPlays, TellsIfItFails};
+ghost use Rattle.chord_pool.specs.Players.{IsOneRun, IsFit, AreUnready, FoundNoneBelow, FoundNone, SawUnready, LookedAmong, LookedOnce, LookedThrough, BeganForEach, BeganToTheEnd, KnowsCount, HasStarted, StandsStill, BeginsLook, HasLooked, HadARound, HadRounds, IsBetweenRounds, HasLeftOff, MayPlay, HasPlayed, PlaysOn, IsOnTheWay, CountsIfItPlays, TellsIfItFails};
 
 use crate::crowd::Crowd;
 use crate::pause::Pause;
@@ -88,7 +89,6 @@ fn try_start<'a, G: Gate>(
     ensures counts { result ≡ true → counts card.new ≡ true }
     ensures as_before { result ≡ false → counts card.new ≡ counts card.old }
     ensures ended { counts card.old ≡ true → ended card.new ≡ ended card.old }
-    ensures throughout { result ≡ true → ended card.new ≡ ended card.old }
     ensures began { BeganForEach (view worker.old.desk) (view worker.new.desk) card.old card.new }
     ensures plays { result ≡ true → PlaysFiring G.knows (view worker.old.desk).kept worker.old.task worker.new i }
     ensures seen { result ≡ false → SawUnready (view worker.old.desk) (view worker.new.desk) i }
@@ -389,6 +389,7 @@ impl Player {
         ensures same { (self.new.worker ≡ self.old.worker) × (self.new.failed ≡ self.old.failed) }
         ensures card { HasReadNothing self.old.card self.new.card × (stops self.new.card ≡ stops self.old.card) }
         ensures counts { counts self.new.card ≡ false }
+        ensures ended { ended self.new.card ≡ ended self.old.card + counted_as (counts self.old.card) }
     {
         self.card.end();
         self.card.wake_all();
@@ -415,6 +416,7 @@ impl Player {
         ensures counts { result ≡ true → CountsIfItPlays self.new }
         ensures went { result ≡ true → HadARound G.knows run.now.space.now self.old self.new }
         ensures off { result ≡ false → self.new.failed ≡ false → StillPlays (view self.old.worker.desk).kept self.old.worker.task self.new.worker }
+        ensures last { result ≡ false → BeganToTheEnd self.old self.new }
         ensures asked { result ≡ true → self.old.worker.task ≡ None → stops self.new.card ≡ false }
         ensures heard { result ≡ true → stops self.old.card ≡ false → stops self.new.card ≡ false }
     {

@@ -2,7 +2,7 @@ use Rattle.std.proofs.Common.{◌≡◌, ◌∙◌, refl, sym, ap, true, false, 
 use Rattle.std.proofs.lemmas.Bool.{ne_eqb}
 use Rattle.chord_roll.specs.Cards.{counts, ended, last_read}
 use Rattle.chord_pool.specs.Players.{began}
-use Rattle.chord_pool.proofs.Looking.{none_there, found_first, found_far, found_none, began_as, began_off, began_more, began_from, ended_once}
+use Rattle.chord_pool.proofs.Looking.{none_there, found_first, found_far, found_none, began_as, began_off, began_more, began_from}
 use Rattle.chord_pool.proofs.Endings.{task_started}
 use Rattle.chord_space.specs.Desks.{view}
 use Rattle.chord_worker.specs.declared.worker.Worker.{Worker}
@@ -18,12 +18,7 @@ returns-then-counted-2-clause-looked g c = λ _.
     let counted : counts c.args.self.now.card ≡ true = sym c.read-working.ensures.same.2 ∙ sym (ap counts same.1) ∙ sym c.if-counted-2.ensures in
     let all : c.if-counted.look ≡ true = elim c.if-counted.branch [ then-counted w ↦ w.look-is ∙ c.if-counted-2.true | else-counted w ↦ absurd (cc) ] in
     inr (found_none c.args.run.now.space.now c.args.self.now c.begin_look.new.self c.look.new.self _ c.if-counted.look same.0 same.3 (record { near = begins.near; far = begins.far }) (all ∙ sym counted)
-    none (look.kept none) (look.through none) (look.next none) (look.knew none) (look.knows none) c.requires.idle refl refl refl (λ other. absurd (cc)) (λ _. look.same.1)
-    (λ yes.
-    let before = ap counts same.1 ∙ c.read-working.ensures.same.2 ∙ yes in
-    let now : counts c.look.new.self.card ≡ true = look.as_before none ∙ before in
-    let as_often : ended c.look.new.self.card ≡ ended c.args.self.now.card = look.ended before ∙ ap ended same.1 ∙ c.read-working.ensures.ended in
-    search (rules, ended_once, now, as_often)))
+    none (look.kept none) (look.through none) (look.next none) (look.knew none) (look.knows none) c.requires.idle refl refl refl (λ other. absurd (cc)) (λ _. look.same.1) (search rules))
 
 pub returns-clause-looked : goal.returns-clause-looked
 returns-clause-looked g c = λ _.
@@ -34,7 +29,7 @@ returns-clause-looked g c = λ _.
     let counted : counts c.args.self.now.card ≡ false = sym c.read-working.ensures.same.2 ∙ sym (ap counts same.1) ∙ sym c.if-counted-2.ensures in
     let all : c.if-counted.look ≡ false = elim c.if-counted.branch [ then-counted w ↦ absurd (cc) | else-counted w ↦ w.look-is ∙ ne_eqb c.read-working.result 0 c.if-working-eq0.false ] in
     inr (found_none c.args.run.now.space.now c.args.self.now c.begin_look.new.self c.look.new.self _ c.if-counted.look same.0 same.3 (record { near = begins.near; far = begins.far }) (all ∙ sym counted)
-    none (look.kept none) (look.through none) (look.next none) (look.knew none) (look.knows none) c.requires.idle refl refl refl (λ _ few. let more = c.saturating_add-self.ensures in let before = look.same.1 in omega (arith, more, before, few)) (λ other. absurd (cc)) (λ other. absurd (cc)))
+    none (look.kept none) (look.through none) (look.next none) (look.knew none) (look.knows none) c.requires.idle refl refl refl (λ _ few. let more = c.saturating_add-self.ensures in let before = look.same.1 in omega (arith, more, before, few)) (λ other. absurd (cc)) (look.as_before none ∙ ap counts same.1 ∙ c.read-working.ensures.same.2 ∙ counted))
 
 pub returns-then-has_task-clause-looked : goal.returns-then-has_task-clause-looked
 returns-then-has_task-clause-looked g c = λ _.
