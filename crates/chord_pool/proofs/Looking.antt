@@ -298,12 +298,13 @@ started_since knows u v w none same started = (started.0, plays_since knows u v 
 -- a player that looked and found a firing, where b is the player as it began to look, and l as it was after it
 pub found_first : (knows : ℕ → Type 0) (x b l y : Player) → b.worker ≡ x.worker → b.known ≡ x.known → BeginsLook x b.place b.misses
     → PlaysFiring knows (view b.worker.desk).kept b.worker.task l.worker l.place → b.place ≤ l.place → AreUnready b.place l.place (view l.worker.desk).looked.seen
-    → (counts x.card ≡ false → last_read y.card ≢ Some 0 → l.place < b.known) → y.worker ≡ l.worker → y.place ≡ l.place → y.misses ≡ 0 → (counts x.card ≡ true → ended y.card ≡ ended x.card) → HasFound knows x y
-found_first knows x b l y worker known begins plays onward before fresh same_worker same_place missed throughout = record {
+    → LookedThrough b.place (l.place + 1) (view b.worker.desk) (view l.worker.desk) → (counts x.card ≡ false → last_read y.card ≢ Some 0 → l.place < b.known) → y.worker ≡ l.worker → y.place ≡ l.place → y.misses ≡ 0 → (counts x.card ≡ true → ended y.card ≡ ended x.card) → HasFound knows x y
+found_first knows x b l y worker known begins plays onward before through fresh same_worker same_place missed throughout = record {
   from = b.place;
   begins = inl (b.misses, begins);
   onward = subst (λ (n : ℕ). b.place ≤ n) (sym same_place) onward;
   before = rw (same_worker, same_place) before;
+  through = (view b.worker.desk, inl (ap (λ (w : Worker). (view w.desk).looked.seen) worker), rw (same_worker, same_place) through);
   fresh = λ not unread. let low = fresh not unread in omega (arith, low, same_place, known);
   plays = rw (same_worker, same_place, sym worker) plays;
   misses = missed;
@@ -311,14 +312,20 @@ found_first knows x b l y worker known begins plays onward before fresh same_wor
 }
 
 -- a player that did not count, read that nobody is at work, found none and then looked from the first number on, and found a firing: it was l before that look, and z after it
-pub found_far : (knows : ℕ → Type 0) (x b l z y : Player) → b.worker ≡ x.worker → x.worker.task ≡ None → (view l.worker.desk).kept ≡ (view b.worker.desk).kept
+pub found_far : (knows : ℕ → Type 0) (s : Space Parcel) (x b l z y : Player) → b.worker ≡ x.worker → BeginsLook x b.place b.misses → KnowsCount s l
+    → LookedThrough b.place l.known (view b.worker.desk) (view l.worker.desk) → LookedThrough 0 (z.place + 1) (view l.worker.desk) (view z.worker.desk) → x.worker.task ≡ None → (view l.worker.desk).kept ≡ (view b.worker.desk).kept
     → PlaysFiring knows (view l.worker.desk).kept l.worker.task z.worker z.place → AreUnready 0 z.place (view z.worker.desk).looked.seen → last_read y.card ≡ Some 0
     → y.worker ≡ z.worker → y.place ≡ z.place → y.misses ≡ 0 → counts x.card ≡ false → HasFound knows x y
-found_far knows x b l z y worker none kept plays before read same_worker same_place missed not = record {
+found_far knows s x b l z y worker begins count first through none kept plays before read same_worker same_place missed not = record {
   from = 0;
   begins = inr (refl, read);
   onward = omega arith;
   before = rw (same_worker, same_place) before;
+  through = (
+    view l.worker.desk,
+    inr (b.place, b.misses, l.known, count.0, begins, through_from (view x.worker.desk) (view b.worker.desk) (view l.worker.desk) b.place l.known (ap (λ (w : Worker). (view w.desk).looked.seen) worker) first, count.1, (let known = count.2 in omega (arith, known)), read),
+    rw (same_worker, same_place) through,
+  );
   fresh = λ not unread. absurd (unread read);
   plays = rw (same_worker, same_place) (plays_since knows x.worker l.worker z.worker z.place none (kept ∙ ap (λ (w : Worker). (view w.desk).kept) worker) plays);
   misses = missed;
@@ -354,6 +361,11 @@ looked_by knows s x y k same as_often (inl found) = inl (record {
   begins = ⊎_elim (λ near. inl (near.0, record { near = near.1.near; far = near.1.far })) (λ read. inr read) found.begins;
   onward = found.onward;
   before = found.before;
+  through = (
+    found.through.0,
+    ⊎_elim (λ none. inl none) (λ far. inr (far.0, far.1, far.2, far.3, record { near = far.4.near; far = far.4.far }, far.5, far.6, far.7, far.8)) found.through.1,
+    found.through.2,
+  );
   fresh = λ not. found.fresh (same ∙ not);
   plays = found.plays;
   misses = found.misses;

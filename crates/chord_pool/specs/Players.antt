@@ -95,7 +95,7 @@ pub record LookedOnce (i : ℕ) (v w : View) : Type 0 where
   pub unready : word.cell ≢ Ready
   pub seen : w.looked.seen ≡ record { number = i; word = word } ∷ v.looked.seen
 
--- between these views the desk looked at cells from `from` up to below `below` and at no other ones: as many looks as these are read no firing ready, and at most as many more read one that was, before another worker started it
+-- between these views the desk looked at cells from `from` up to below `below` and at no other ones: as many looks as these are read no firing ready, and at most as many more read one that was
 pub record LookedThrough (from below : ℕ) (v w : View) : Type 0 where
   pub looks : List Look
   pub seen : w.looked.seen ≡ looks ++ v.looked.seen
@@ -163,12 +163,19 @@ pub record BeginsLook (x : Player) (from misses : ℕ) : Type 0 where
 abbrev pub BeginsAt : Player → Player → ℕ → Type 0
 BeginsAt x y from = ((misses : ℕ) × BeginsLook x from misses) ⊎ ((from ≡ 0) × (last_read y.card ≡ Some 0))
 
--- a player that had no task plays the firing at its place now, of which the gate knows, and whose entry its desk keeps beside all that it kept: each cell from where its look began up to that one was last seen in another state than ready, one that does not count took none that was drawn since its last look, unless it read that nobody is at work, and one that counts was not counted off
+-- before a look that found a firing the player looked at no cell, or had a look that found none, where it read that nobody is at work: it looked where its look begins, at most up to the numbers that the counter said were given
+abbrev pub LookedBefore : Player → Player → View → Type 0
+LookedBefore x y v =
+    (v.looked.seen ≡ (view x.worker.desk).looked.seen)
+    ⊎ ((from : ℕ) × (misses : ℕ) × (below : ℕ) × (count : ℕ) × BeginsLook x from misses × LookedThrough from below (view x.worker.desk) v × (v.looked.count ≡ Some count) × (below ≤ count) × (last_read y.card ≡ Some 0))
+
+-- a player that had no task plays the firing at its place now, of which the gate knows, and whose entry its desk keeps beside all that it kept: each cell from where its look began up to that one was last seen in another state than ready, it looked at these, at that one and at no other ones, one that does not count took none that was drawn since its last look, unless it read that nobody is at work, and one that counts was not counted off
 pub record HasFound (knows : ℕ → Type 0) (x y : Player) : Type 0 where
   pub from : ℕ
   pub begins : BeginsAt x y from
   pub onward : from ≤ y.place
   pub before : AreUnready from y.place (view y.worker.desk).looked.seen
+  pub through : (v : View) × LookedBefore x y v × LookedThrough from (y.place + 1) v (view y.worker.desk)
   pub fresh : counts x.card ≡ false → last_read y.card ≢ Some 0 → y.place < x.known
   pub plays : PlaysFiring knows (view x.worker.desk).kept x.worker.task y.worker y.place
   pub misses : y.misses ≡ 0

@@ -24,9 +24,11 @@ pub returns-clause-last : goal.returns-clause-last
 returns-clause-last g c = λ _.
     let before = view c.args.self.now.worker.desk in
     let after = view c.idle.new.self.worker.desk in
-    let card = c.args.self.now.card in
-    (λ _. began_from before before after after card c.has_stopped.new.self c.idle.new.self.card c.idle.new.self.card refl refl c.has_stopped.ensures.same.2
-      (began_as card c.has_stopped.new.self c.has_stopped.ensures.same.2 c.has_stopped.ensures.ended) refl c.idle.ensures.began, λ lost. let z : true ≡ false = sym lost ∙ c.idle.ensures.sane in absurd (cc))
+    let card = c.args.self.now.card in (
+      λ _. began_from before before after after card c.has_stopped.new.self c.idle.new.self.card c.idle.new.self.card refl refl c.has_stopped.ensures.same.2
+          (began_as card c.has_stopped.new.self c.has_stopped.ensures.same.2 c.has_stopped.ensures.ended) refl c.idle.ensures.began,
+      λ lost. let z : true ≡ false = sym lost ∙ c.idle.ensures.sane in absurd (cc),
+    )
 
 pub returns-then-has_task-clause-last : goal.returns-then-has_task-clause-last
 returns-then-has_task-clause-last g c = λ e. (λ sane. let z : true ≡ false = sym (c.advance.ensures.failed e) ∙ sane in absurd (cc), λ _. began_as c.args.self.now.card c.advance.new.self.card c.advance.ensures.card c.advance.ensures.ended)
