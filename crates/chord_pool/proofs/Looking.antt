@@ -240,6 +240,10 @@ began_from u v w x c d e f same_before same_after same as_often so_often was = r
     moved : (a b : Bool) (x y z n : ℕ) → b ≡ a → y ≡ x → z ≡ y + (if b then 0 else n) → z ≡ x + (if a then 0 else n)
     moved a b x y z n same as_often later = rw (same, as_often) at later
 
+-- nothing was looked at after looks, and the worker began no more
+pub began_on : (u v w : View) (c d e : Card) → w.looked.seen ≡ v.looked.seen → began e ≡ began d → BeganForEach u v c d → BeganForEach u w c e
+began_on u v w c d e same as_often was = record { looks = was.looks; seen = same ∙ was.seen; began_is = as_often ∙ was.began_is }
+
 -- numbers in a row were looked at, and then one more
 pub through_more : (u v w : View) (from i : ℕ) → from ≤ i → LookedThrough from i u v → LookedThrough i (i + 1) v w → LookedThrough from (i + 1) u w
 through_more u v w from i low was one = record {
@@ -294,12 +298,13 @@ started_since knows u v w none same started = (started.0, plays_since knows u v 
 -- a player that looked and found a firing, where b is the player as it began to look, and l as it was after it
 pub found_first : (knows : ℕ → Type 0) (x b l y : Player) → b.worker ≡ x.worker → b.known ≡ x.known → BeginsLook x b.place b.misses
     → PlaysFiring knows (view b.worker.desk).kept b.worker.task l.worker l.place → b.place ≤ l.place → AreUnready b.place l.place (view l.worker.desk).looked.seen
-    → (counts x.card ≡ false → last_read y.card ≢ Some 0 → l.place < b.known) → y.worker ≡ l.worker → y.place ≡ l.place → y.misses ≡ 0 → (counts x.card ≡ true → ended y.card ≡ ended x.card) → HasFound knows x y
-found_first knows x b l y worker known begins plays onward before fresh same_worker same_place missed throughout = record {
+    → LookedThrough b.place (l.place + 1) (view b.worker.desk) (view l.worker.desk) → (counts x.card ≡ false → last_read y.card ≢ Some 0 → l.place < b.known) → y.worker ≡ l.worker → y.place ≡ l.place → y.misses ≡ 0 → (counts x.card ≡ true → ended y.card ≡ ended x.card) → HasFound knows x y
+found_first knows x b l y worker known begins plays onward before through fresh same_worker same_place missed throughout = record {
   from = b.place;
   begins = inl (b.misses, begins);
   onward = subst (λ (n : ℕ). b.place ≤ n) (sym same_place) onward;
   before = rw (same_worker, same_place) before;
+  through = (view b.worker.desk, inl (ap (λ (w : Worker). (view w.desk).looked.seen) worker), rw (same_worker, same_place) through);
   fresh = λ not unread. let low = fresh not unread in omega (arith, low, same_place, known);
   plays = rw (same_worker, same_place, sym worker) plays;
   misses = missed;
@@ -307,14 +312,20 @@ found_first knows x b l y worker known begins plays onward before fresh same_wor
 }
 
 -- a player that did not count, read that nobody is at work, found none and then looked from the first number on, and found a firing: it was l before that look, and z after it
-pub found_far : (knows : ℕ → Type 0) (x b l z y : Player) → b.worker ≡ x.worker → x.worker.task ≡ None → (view l.worker.desk).kept ≡ (view b.worker.desk).kept
+pub found_far : (knows : ℕ → Type 0) (s : Space Parcel) (x b l z y : Player) → b.worker ≡ x.worker → BeginsLook x b.place b.misses → KnowsCount s l
+    → LookedThrough b.place l.known (view b.worker.desk) (view l.worker.desk) → LookedThrough 0 (z.place + 1) (view l.worker.desk) (view z.worker.desk) → x.worker.task ≡ None → (view l.worker.desk).kept ≡ (view b.worker.desk).kept
     → PlaysFiring knows (view l.worker.desk).kept l.worker.task z.worker z.place → AreUnready 0 z.place (view z.worker.desk).looked.seen → last_read y.card ≡ Some 0
     → y.worker ≡ z.worker → y.place ≡ z.place → y.misses ≡ 0 → counts x.card ≡ false → HasFound knows x y
-found_far knows x b l z y worker none kept plays before read same_worker same_place missed not = record {
+found_far knows s x b l z y worker begins count first through none kept plays before read same_worker same_place missed not = record {
   from = 0;
   begins = inr (refl, read);
   onward = omega arith;
   before = rw (same_worker, same_place) before;
+  through = (
+    view l.worker.desk,
+    inr (b.place, b.misses, l.known, count.0, begins, through_from (view x.worker.desk) (view b.worker.desk) (view l.worker.desk) b.place l.known (ap (λ (w : Worker). (view w.desk).looked.seen) worker) first, count.1, (let known = count.2 in omega (arith, known)), read),
+    rw (same_worker, same_place) through,
+  );
   fresh = λ not unread. absurd (unread read);
   plays = rw (same_worker, same_place) (plays_since knows x.worker l.worker z.worker z.place none (kept ∙ ap (λ (w : Worker). (view w.desk).kept) worker) plays);
   misses = missed;
@@ -326,7 +337,7 @@ pub found_none : (s : Space Parcel) (x b l y : Player) (all : Bool) → b.worker
     → l.worker.task ≡ None → (view l.worker.desk).kept ≡ (view b.worker.desk).kept → LookedThrough b.place (if all then l.known else min b.known l.known) (view b.worker.desk) (view l.worker.desk)
     → l.place ≡ (if all then l.known else min b.known l.known) - 256 → FoundNoneBelow s b.place b.known (view l.worker.desk) → KnowsCount s l → x.worker.task ≡ None
     → y.worker ≡ l.worker → y.place ≡ l.place → y.known ≡ l.known → (counts x.card ≡ false → b.misses < 32 → y.misses ≡ b.misses + 1) → (counts x.card ≡ true → y.misses ≡ b.misses)
-    → (counts x.card ≡ true → ended y.card ≡ ended x.card + 1) → HasFoundNone s x y
+    → counts y.card ≡ false → HasFoundNone s x y
 found_none s x b l y all worker known begins as_counted none kept through next unready count idle same_worker same_place same_known missed uncounted off = record {
   from = b.place;
   misses = b.misses;
@@ -350,6 +361,11 @@ looked_by knows s x y k same as_often (inl found) = inl (record {
   begins = ⊎_elim (λ near. inl (near.0, record { near = near.1.near; far = near.1.far })) (λ read. inr read) found.begins;
   onward = found.onward;
   before = found.before;
+  through = (
+    found.through.0,
+    ⊎_elim (λ none. inl none) (λ far. inr (far.0, far.1, far.2, far.3, record { near = far.4.near; far = far.4.far }, far.5, far.6, far.7, far.8)) found.through.1,
+    found.through.2,
+  );
   fresh = λ not. found.fresh (same ∙ not);
   plays = found.plays;
   misses = found.misses;
@@ -366,7 +382,7 @@ looked_by knows s x y k same as_often (inr none) = inr (record {
   place = none.place;
   missed = λ not. none.missed (same ∙ not);
   uncounted = λ yes. none.uncounted (same ∙ yes);
-  off = λ yes. none.off (same ∙ yes) ∙ ap (λ (n : ℕ). n + 1) as_often;
+  off = none.off;
   still = none.still;
   knows_count = none.knows_count;
 })

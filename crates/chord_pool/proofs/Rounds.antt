@@ -1,7 +1,7 @@
 -- Rounds of a player, one after the other, and turns of the first worker alone.
-use Rattle.std.proofs.Common.{◌≡◌, ℕ, List, [], ◌∷◌, ◌++◌, refl, sym, ap, ◌∙◌, subst}
+use Rattle.std.proofs.Common.{◌≡◌, ℕ, List, [], ◌∷◌, ◌++◌, true, refl, sym, ap, ◌∙◌, subst, ⊎_elim, inl, inr}
 use Rattle.chord_roll.specs.declared.card.Card.{Card}
-use Rattle.chord_roll.specs.Cards.{IsSameCard}
+use Rattle.chord_roll.specs.Cards.{last_read, IsSameCard}
 use Rattle.chord_space.specs.declared.space.Space.{Space}
 use Rattle.chord_space.specs.Desks.{view}
 use Rattle.chord_task.specs.declared.parcel.Opened.{Opened as Parcel}
@@ -9,8 +9,9 @@ use Rattle.chord_worker.specs.declared.worker.Worker.{Worker}
 use Rattle.chord_worker.specs.Resting.{IsSameRole}
 use Rattle.chord_worker.specs.Stepping.{StillPlays}
 use Rattle.chord_pool.specs.declared.player.Player.{Player}
-use Rattle.chord_pool.specs.Players.{HadARound, StandsStill, CountsAsBefore, IsBetweenRounds, AreRounds, HadRounds, HasLeftOff, HaveAllLeftOff, IsSettled, MayPlay, PlaysOn, CountsIfItPlays}
+use Rattle.chord_pool.specs.Players.{HadARound, StandsStill, CountsAsBefore, began, IsBetweenRounds, AreRounds, HadRounds, HasLeftOff, HaveAllLeftOff, FoundNone, IsSettled, HasStopped, HasPlayed, MayPlay, PlaysOn, CountsIfItPlays}
 use Rattle.chord_pool.specs.declared.ending.Alone.{Alone}
+use Rattle.chord_pool.proofs.Looking.{began_none, began_on}
 use Rattle.chord_pool.specs.Ending.{HadATurn, AreTurns, HadTurns, HasLeftOffAlone}
 
 -- a player stands where it stood, twice
@@ -70,15 +71,27 @@ plays_on_between x y z on same failed card =
 
 -- a player that leaves off is where it was, if it has not failed
 pub left_off_there : (knows : ℕ → Type 0) (s : Space Parcel) (x y : Player) → HadRounds knows s x y → HasLeftOff knows s x y
-left_off_there knows s x y had = record { last = y; had = had; off = λ sane. (refl, refl) }
+left_off_there knows s x y had = record { last = y; had = had; off = λ sane. (refl, refl); began_so = (λ sane. began_none (view y.worker.desk) y.card, λ lost. refl) }
 
 -- rounds, and then more of them, after which the player left off and went
-pub left_off_later : (knows : ℕ → Type 0) (s : Space Parcel) (x y z w : Player) → HadRounds knows s x y → HasLeftOff knows s y z → w.worker ≡ z.worker → w.failed ≡ z.failed → HasLeftOff knows s x w
-left_off_later knows s x y z w had later same_worker same_end = record {
+pub left_off_later : (knows : ℕ → Type 0) (s : Space Parcel) (x y z w : Player) → HadRounds knows s x y → HasLeftOff knows s y z → w.worker ≡ z.worker → w.failed ≡ z.failed → began w.card ≡ began z.card → HasLeftOff knows s x w
+left_off_later knows s x y z w had later same_worker same_end as_often = record {
   last = later.last;
   had = more_rounds knows s x y later.last had later.had;
   off = λ sane. subst (λ (v : Worker). StillPlays (view later.last.worker.desk).kept later.last.worker.task v) (sym same_worker) (later.off (sym same_end ∙ sane));
+  began_so = (
+    λ sane. began_on (view later.last.worker.desk) (view z.worker.desk) (view w.worker.desk) later.last.card z.card w.card (ap (λ (v : Worker). (view v.desk).looked.seen) same_worker) as_often (later.began_so.0 (sym same_end ∙ sane)),
+    λ lost. as_often ∙ later.began_so.1 (sym same_end ∙ lost),
+  );
 }
+
+-- a player that goes has played what it had played
+pub played_later : (s : Space Parcel) (z w : Player) → w.worker ≡ z.worker → w.failed ≡ z.failed → last_read w.card ≡ last_read z.card → HasPlayed s z → HasPlayed s w
+played_later s z w same_worker same_end same_read played = λ sane.
+    let was = played (sym same_end ∙ sane) in (
+      subst (HasStopped s) (sym same_worker) was.0,
+      ⊎_elim (λ spent. inl (subst (λ (v : Worker). (view v.desk).spent ≡ true) (sym same_worker) spent)) (λ none. inr (subst (λ (v : Worker). FoundNone s 0 (view v.desk)) (sym same_worker) none.0, same_read ∙ none.1)) was.1,
+    )
 
 -- one more player that has left off
 pub left_off_more : (knows : ℕ → Type 0) (s : Space Parcel) (xs ys : List Player) (x y : Player) → HaveAllLeftOff knows s xs ys → HasLeftOff knows s x y → HaveAllLeftOff knows s (xs ++ x ∷ []) (ys ++ y ∷ [])

@@ -89,13 +89,13 @@ pub record LookedAmong (from below : ℕ) (v w : View) : Type 0 where
   pub seen : w.looked.seen ≡ looks ++ v.looked.seen
   pub among : AreAmong from below looks
 
--- between these views the desk looked once, at the cell i, in which no firing was ready
+-- between these views the desk looked once, at the cell i, and what it saw there is no ready firing: of a start that starts one, the word that it wrote
 pub record LookedOnce (i : ℕ) (v w : View) : Type 0 where
   pub word : Word
   pub unready : word.cell ≢ Ready
   pub seen : w.looked.seen ≡ record { number = i; word = word } ∷ v.looked.seen
 
--- between these views the desk looked at cells from `from` up to below `below` and at no other ones: as many looks as these are read no firing ready, and at most as many more read one that was, before another worker started it
+-- between these views the desk looked at cells from `from` up to below `below` and at no other ones: as many looks as these are read no firing ready, and at most as many more read one that was
 pub record LookedThrough (from below : ℕ) (v w : View) : Type 0 where
   pub looks : List Look
   pub seen : w.looked.seen ≡ looks ++ v.looked.seen
@@ -163,18 +163,25 @@ pub record BeginsLook (x : Player) (from misses : ℕ) : Type 0 where
 abbrev pub BeginsAt : Player → Player → ℕ → Type 0
 BeginsAt x y from = ((misses : ℕ) × BeginsLook x from misses) ⊎ ((from ≡ 0) × (last_read y.card ≡ Some 0))
 
--- a player that had no task plays the firing at its place now, of which the gate knows, and whose entry its desk keeps beside all that it kept: each cell from where its look began up to that one was last seen in another state than ready, one that does not count took none that was drawn since its last look, unless it read that nobody is at work, and one that counts was not counted off
+-- before a look that found a firing the player looked at no cell, or had a look that found none, where it read that nobody is at work: it looked where its look begins, at most up to the numbers that the counter said were given
+abbrev pub LookedBefore : Player → Player → View → Type 0
+LookedBefore x y v =
+    (v.looked.seen ≡ (view x.worker.desk).looked.seen)
+    ⊎ ((from : ℕ) × (misses : ℕ) × (below : ℕ) × (count : ℕ) × BeginsLook x from misses × LookedThrough from below (view x.worker.desk) v × (v.looked.count ≡ Some count) × (below ≤ count) × (last_read y.card ≡ Some 0))
+
+-- a player that had no task plays the firing at its place now, of which the gate knows, and whose entry its desk keeps beside all that it kept: each cell from where its look began up to that one was last seen in another state than ready, it looked at these, at that one and at no other ones, one that does not count took none that was drawn since its last look, unless it read that nobody is at work, and one that counts was not counted off
 pub record HasFound (knows : ℕ → Type 0) (x y : Player) : Type 0 where
   pub from : ℕ
   pub begins : BeginsAt x y from
   pub onward : from ≤ y.place
   pub before : AreUnready from y.place (view y.worker.desk).looked.seen
+  pub through : (v : View) × LookedBefore x y v × LookedThrough from (y.place + 1) v (view y.worker.desk)
   pub fresh : counts x.card ≡ false → last_read y.card ≢ Some 0 → y.place < x.known
   pub plays : PlaysFiring knows (view x.worker.desk).kept x.worker.task y.worker y.place
   pub misses : y.misses ≡ 0
   pub throughout : counts x.card ≡ true → ended y.card ≡ ended x.card
 
--- a player that had no task has none and keeps what it kept: it looked at the numbers from where its look begins up to those that it knew of, or all that are given if it counts, found no firing to start there, was counted off once if it counted, goes on at most 256 below their end, and knows how many are given now
+-- a player that had no task has none and keeps what it kept: it looked at the numbers from where its look begins up to those that it knew of, or all that are given if it counts, found no firing to start there, does not count, goes on at most 256 below their end, and knows how many are given now
 pub record HasFoundNone (s : Space Parcel) (x y : Player) : Type 0 where
   pub from : ℕ
   pub misses : ℕ
@@ -186,7 +193,7 @@ pub record HasFoundNone (s : Space Parcel) (x y : Player) : Type 0 where
   pub place : y.place ≡ below - 256
   pub missed : counts x.card ≡ false → misses < 32 → y.misses ≡ misses + 1
   pub uncounted : counts x.card ≡ true → y.misses ≡ misses
-  pub off : counts x.card ≡ true → ended y.card ≡ ended x.card + 1
+  pub off : counts y.card ≡ false
   pub still : StillPlays (view x.worker.desk).kept x.worker.task y.worker
   pub knows_count : KnowsCount s y
 
@@ -232,11 +239,16 @@ pub record HadRounds (knows : ℕ → Type 0) (s : Space Parcel) (x y : Player) 
   pub after_each : List Player
   pub rounds : AreRounds knows s x after_each y
 
--- the player had rounds and left off: unless it failed it plays what it played after them, and keeps what it kept
+-- a player that leaves off began to count once for each look that read a firing ready if it did not count, and no more if it counted or failed: so it was counted off as often, and once more if it counted and does no longer
+abbrev pub BeganToTheEnd : Player → Player → Type 0
+BeganToTheEnd x y = (y.failed ≡ false → BeganForEach (view x.worker.desk) (view y.worker.desk) x.card y.card) × (y.failed ≡ true → began y.card ≡ began x.card)
+
+-- the player had rounds and left off: unless it failed it plays what it played after them, and keeps what it kept; and it began to count no more often than it saw a firing to start
 pub record HasLeftOff (knows : ℕ → Type 0) (s : Space Parcel) (x y : Player) : Type 0 where
   pub last : Player
   pub had : HadRounds knows s x last
   pub off : y.failed ≡ false → StillPlays (view last.worker.desk).kept last.worker.task y.worker
+  pub began_so : BeganToTheEnd last y
 
 -- each of these players, in this order, had rounds and left off
 abbrev pub HaveAllLeftOff : (ℕ → Type 0) → Space Parcel → List Player → List Player → Type 0

@@ -1,12 +1,13 @@
 //! A worker at its thread: it plays what it has, and looks for more.
 ghost use Rattle.std.specs.Prelude.{◌≡◌, ◌≢◌, ◌<◌, ◌≤◌, ◌+◌, ◌-◌, true, false, if◌then◌else◌, min, None, Some, is_some, IfNone, IfSome};
 ghost use Rattle.chord_roll.specs.Cards.{counts, ended, last_read, stops, HasReadNothing, IsSameCard};
+ghost use Rattle.chord_roll.specs.Roll.{counted_as};
 ghost use Rattle.chord_pool.specs.declared.player.Player.{Player as ThePlayer};
 ghost use Rattle.chord_space.specs.Desks.{view};
 ghost use Rattle.chord_task.specs.declared.task.Task.{Task as TheTask};
 ghost use Rattle.chord_worker.specs.Resting.{IsSameRole, LastSawReady};
 ghost use Rattle.chord_worker.specs.Stepping.{DrewAStep, HasGoneOn, PlaysBody, PlaysNext, PlaysFiring, StillPlays};
-ghost use Rattle.chord_pool.specs.Players.{IsOneRun, IsFit, AreUnready, FoundNoneBelow, FoundNone, SawUnready, LookedAmong, LookedOnce, LookedThrough, BeganForEach, KnowsCount, HasStarted, StandsStill, BeginsLook, HasLooked, HadARound, HadRounds, IsBetweenRounds, HasLeftOff, MayPlay, HasPlayed, PlaysOn, IsOnTheWay, CountsIfItPlays, TellsIfItFails};
+ghost use Rattle.chord_pool.specs.Players.{IsOneRun, IsFit, AreUnready, FoundNoneBelow, FoundNone, SawUnready, LookedAmong, LookedOnce, LookedThrough, BeganForEach, BeganToTheEnd, KnowsCount, HasStarted, StandsStill, BeginsLook, HasLooked, HadARound, HadRounds, IsBetweenRounds, HasLeftOff, MayPlay, HasPlayed, PlaysOn, IsOnTheWay, CountsIfItPlays, TellsIfItFails};
 
 use crate::crowd::Crowd;
 use crate::pause::Pause;
@@ -88,12 +89,11 @@ fn try_start<'a, G: Gate>(
     ensures counts { result ≡ true → counts card.new ≡ true }
     ensures as_before { result ≡ false → counts card.new ≡ counts card.old }
     ensures ended { counts card.old ≡ true → ended card.new ≡ ended card.old }
-    ensures throughout { result ≡ true → ended card.new ≡ ended card.old }
     ensures began { BeganForEach (view worker.old.desk) (view worker.new.desk) card.old card.new }
     ensures plays { result ≡ true → PlaysFiring G.knows (view worker.old.desk).kept worker.old.task worker.new i }
     ensures seen { result ≡ false → SawUnready (view worker.old.desk) (view worker.new.desk) i }
     ensures among { LookedAmong i (i + 1) (view worker.old.desk) (view worker.new.desk) }
-    ensures through { result ≡ false → LookedThrough i (i + 1) (view worker.old.desk) (view worker.new.desk) }
+    ensures through { LookedThrough i (i + 1) (view worker.old.desk) (view worker.new.desk) }
 {
     match worker.look(run.space, i) {
         Cell::Ready => {
@@ -136,6 +136,7 @@ fn sweep<'a, G: Gate>(
     ensures count { IfNone result ((view worker.new.desk).looked.count ≡ (view worker.old.desk).looked.count) }
     ensures seen { IfNone result (AreUnready from below (view worker.new.desk).looked.seen) }
     ensures through { IfNone result (LookedThrough from below (view worker.old.desk) (view worker.new.desk)) }
+    ensures found { IfSome result (λ i. LookedThrough from (i + 1) (view worker.old.desk) (view worker.new.desk)) }
     ensures plays { IfSome result (λ i. PlaysFiring G.knows (view worker.old.desk).kept worker.old.task worker.new i) }
     ensures among { IfSome result (λ i. (from ≤ i) × (i < below)) }
     ensures before { IfSome result (λ i. AreUnready from i (view worker.new.desk).looked.seen) }
@@ -175,6 +176,7 @@ fn find_work<'a, G: Gate>(
     ensures count { worker.new.task ≡ None → (view worker.new.desk).looked.count ≡ (view worker.old.desk).looked.count }
     ensures seen { worker.new.task ≡ None → AreUnready place below (view worker.new.desk).looked.seen }
     ensures through { worker.new.task ≡ None → LookedThrough place below (view worker.old.desk) (view worker.new.desk) }
+    ensures found { worker.new.task ≢ None → LookedThrough place (result + 1) (view worker.old.desk) (view worker.new.desk) }
     ensures next { worker.new.task ≡ None → result ≡ below - 256 }
     ensures plays { worker.new.task ≢ None → PlaysFiring G.knows (view worker.old.desk).kept worker.old.task worker.new result }
     ensures onward { worker.new.task ≢ None → place ≤ result }
@@ -275,6 +277,7 @@ impl Player {
         ensures knew { self.new.worker.task ≡ None → FoundNoneBelow run.now.space.now self.old.place self.old.known (view self.new.worker.desk) }
         ensures knows { self.new.worker.task ≡ None → KnowsCount run.now.space.now self.new }
         ensures through { self.new.worker.task ≡ None → LookedThrough self.old.place (if among_all then self.new.known else min self.old.known self.new.known) (view self.old.worker.desk) (view self.new.worker.desk) }
+        ensures found { self.new.worker.task ≢ None → LookedThrough self.old.place (self.new.place + 1) (view self.old.worker.desk) (view self.new.worker.desk) }
         ensures next { self.new.worker.task ≡ None → self.new.place ≡ (if among_all then self.new.known else min self.old.known self.new.known) - 256 }
         ensures plays { self.new.worker.task ≢ None → PlaysFiring G.knows (view self.old.worker.desk).kept self.old.worker.task self.new.worker self.new.place }
         ensures onward { self.new.worker.task ≢ None → self.old.place ≤ self.new.place }
@@ -317,6 +320,7 @@ impl Player {
         ensures none { self.new.worker.task ≡ None → FoundNone run.now.space.now 0 (view self.new.worker.desk) }
         ensures plays { self.new.worker.task ≢ None → PlaysFiring G.knows (view self.old.worker.desk).kept self.old.worker.task self.new.worker self.new.place }
         ensures before { self.new.worker.task ≢ None → AreUnready 0 self.new.place (view self.new.worker.desk).looked.seen }
+        ensures found { self.new.worker.task ≢ None → LookedThrough 0 (self.new.place + 1) (view self.old.worker.desk) (view self.new.worker.desk) }
     {
         if from > 0 {
             self.place = 0;
@@ -389,6 +393,7 @@ impl Player {
         ensures same { (self.new.worker ≡ self.old.worker) × (self.new.failed ≡ self.old.failed) }
         ensures card { HasReadNothing self.old.card self.new.card × (stops self.new.card ≡ stops self.old.card) }
         ensures counts { counts self.new.card ≡ false }
+        ensures ended { ended self.new.card ≡ ended self.old.card + counted_as (counts self.old.card) }
     {
         self.card.end();
         self.card.wake_all();
@@ -415,6 +420,7 @@ impl Player {
         ensures counts { result ≡ true → CountsIfItPlays self.new }
         ensures went { result ≡ true → HadARound G.knows run.now.space.now self.old self.new }
         ensures off { result ≡ false → self.new.failed ≡ false → StillPlays (view self.old.worker.desk).kept self.old.worker.task self.new.worker }
+        ensures last { result ≡ false → BeganToTheEnd self.old self.new }
         ensures asked { result ≡ true → self.old.worker.task ≡ None → stops self.new.card ≡ false }
         ensures heard { result ≡ true → stops self.old.card ≡ false → stops self.new.card ≡ false }
     {

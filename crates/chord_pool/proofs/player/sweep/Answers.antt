@@ -17,7 +17,7 @@ loop-i-preserved g c =
       now.stops ∙ was.7,
       saw_it.kept ∙ was.8,
       (let within = c.loop-i-test.true in omega (arith, within)),
-      through_more (view c.args.worker.now.desk) (view c.loop-i.worker.desk) (view c.try_start.new.worker.desk) c.args.from c.loop-i.i c.loop-i.auto.i was.10 (now.through refl),
+      through_more (view c.args.worker.now.desk) (view c.loop-i.worker.desk) (view c.try_start.new.worker.desk) c.args.from c.loop-i.i c.loop-i.auto.i was.10 now.through,
       (λ yes. now.ended (was.5 ∙ yes) ∙ was.11 yes),
       began_more (view c.args.worker.now.desk) (view c.loop-i.worker.desk) (view c.try_start.new.worker.desk) c.args.card.now c.loop-i.card c.try_start.new.card was.5 was.12 now.began,
     )
@@ -43,3 +43,7 @@ returns-clause-through g c = through_all (view c.args.worker.now.desk) (view c.l
 pub returns-then-try_start-clause-began : goal.returns-then-try_start-clause-began
 returns-then-try_start-clause-began g c =
     began_more (view c.args.worker.now.desk) (view c.loop-i.worker.desk) (view c.try_start.new.worker.desk) c.args.card.now c.loop-i.card c.try_start.new.card c.loop-i.invariant.5 c.loop-i.invariant.12 c.if-try_start.ensures.began
+
+pub returns-then-try_start-clause-found : goal.returns-then-try_start-clause-found
+returns-then-try_start-clause-found g c =
+    through_more (view c.args.worker.now.desk) (view c.loop-i.worker.desk) (view c.try_start.new.worker.desk) c.args.from c.loop-i.i c.loop-i.auto.i c.loop-i.invariant.10 c.if-try_start.ensures.through

@@ -19,17 +19,17 @@ returns-then-not-was_at_work-clause-seen g c = λ e.
     seen_twice (view c.args.worker.now.desk) (view c.look.new.self.desk) (view c.start_at_work-started.new.worker.desk) c.args.i look.0 look.2 (c.start_at_work-started.ensures.refused e)
 
 pub returns-else-not-started-clause-through : goal.returns-else-not-started-clause-through
-returns-else-not-started-clause-through g c = λ e.
+returns-else-not-started-clause-through g c =
     let look = c.look.ensures.seen in
     through_twice (view c.args.worker.now.desk) (view c.look.new.self.desk) (view c.start_at_work-started.new.worker.desk) c.args.i look.0 (sym look.1 ∙ c.in-Ready.is) look.2.seen c.start_at_work-started.ensures.once
 
 pub returns-then-not-was_at_work-clause-through : goal.returns-then-not-was_at_work-clause-through
-returns-then-not-was_at_work-clause-through g c = λ e.
+returns-then-not-was_at_work-clause-through g c =
     let look = c.look.ensures.seen in
     through_twice (view c.args.worker.now.desk) (view c.look.new.self.desk) (view c.start_at_work-started.new.worker.desk) c.args.i look.0 (sym look.1 ∙ c.in-Ready.is) look.2.seen c.start_at_work-started.ensures.once
 
 pub returns-in_default-clause-through : goal.returns-in_default-clause-through
-returns-in_default-clause-through g c = λ e.
+returns-in_default-clause-through g c =
     let look = c.look.ensures.seen in
     through_once (view c.args.worker.now.desk) (view c.look.new.self.desk) c.args.i look.0 (λ ready. c.in_default.not-Ready (look.1 ∙ ready)) look.2.seen
 

@@ -1,7 +1,8 @@
 use Rattle.std.proofs.Common.{refl, rules, ◌∙◌}
 use Rattle.chord_space.specs.Desks.{view}
 use Rattle.chord_pool.proofs.Endings.{role_stays}
-use Rattle.chord_pool.proofs.Rounds.{no_rounds, more_rounds, rounds_and_between, may_between, counts_between, plays_on_between, left_off_later}
+use Rattle.chord_pool.proofs.Looking.{began_off}
+use Rattle.chord_pool.proofs.Rounds.{no_rounds, more_rounds, rounds_and_between, may_between, counts_between, plays_on_between, left_off_later, played_later}
 use Rattle.chord_pool.proofs.player.work.Goals as goal
 
 pub loop-init : goal.loop-init
@@ -23,3 +24,8 @@ loop-preserved g c = let was = c.loop.invariant in let now = c.if-not-rounds.ens
 pub returns-then-not-rounds-clause-off : goal.returns-then-not-rounds-clause-off
 returns-then-not-rounds-clause-off g c =
     left_off_later g.G.Gate.knows c.args.run.now.space.now c.args.player c.loop.player c.rounds.new.self c.leave.new.self c.loop.invariant.6 (c.if-not-rounds.ensures.off refl) c.leave.ensures.same.0 c.leave.ensures.same.1
+    (began_off c.rounds.new.self.card c.leave.new.self.card c.leave.ensures.counts c.leave.ensures.ended)
+
+pub returns-then-not-rounds-clause-played : goal.returns-then-not-rounds-clause-played
+returns-then-not-rounds-clause-played g c =
+    played_later c.args.run.now.space.now c.rounds.new.self c.leave.new.self c.leave.ensures.same.0 c.leave.ensures.same.1 c.leave.ensures.card.0.1 (c.if-not-rounds.ensures.stops refl)

@@ -1,8 +1,8 @@
-use Rattle.std.proofs.Common.{◌≡◌, ◌∙◌, refl, sym, ap, true, false, Some, inl, inr, rules, arith}
-use Rattle.std.proofs.lemmas.Bool.{ne_eqb}
+use Rattle.std.proofs.Common.{◌≡◌, ◌∙◌, refl, sym, ap, subst, min, if◌then◌else◌, Bool, true, false, Some, inl, inr, rules, arith}
+use Rattle.std.proofs.lemmas.Bool.{ne_eqb, eq-eqb}
 use Rattle.chord_roll.specs.Cards.{counts, ended, last_read}
-use Rattle.chord_pool.specs.Players.{began}
-use Rattle.chord_pool.proofs.Looking.{none_there, found_first, found_far, found_none, began_as, began_off, began_more, began_from, ended_once}
+use Rattle.chord_pool.specs.Players.{began, LookedThrough}
+use Rattle.chord_pool.proofs.Looking.{none_there, found_first, found_far, found_none, began_as, began_off, began_more, began_from}
 use Rattle.chord_pool.proofs.Endings.{task_started}
 use Rattle.chord_space.specs.Desks.{view}
 use Rattle.chord_worker.specs.declared.worker.Worker.{Worker}
@@ -18,12 +18,7 @@ returns-then-counted-2-clause-looked g c = λ _.
     let counted : counts c.args.self.now.card ≡ true = sym c.read-working.ensures.same.2 ∙ sym (ap counts same.1) ∙ sym c.if-counted-2.ensures in
     let all : c.if-counted.look ≡ true = elim c.if-counted.branch [ then-counted w ↦ w.look-is ∙ c.if-counted-2.true | else-counted w ↦ absurd (cc) ] in
     inr (found_none c.args.run.now.space.now c.args.self.now c.begin_look.new.self c.look.new.self _ c.if-counted.look same.0 same.3 (record { near = begins.near; far = begins.far }) (all ∙ sym counted)
-    none (look.kept none) (look.through none) (look.next none) (look.knew none) (look.knows none) c.requires.idle refl refl refl (λ other. absurd (cc)) (λ _. look.same.1)
-    (λ yes.
-    let before = ap counts same.1 ∙ c.read-working.ensures.same.2 ∙ yes in
-    let now : counts c.look.new.self.card ≡ true = look.as_before none ∙ before in
-    let as_often : ended c.look.new.self.card ≡ ended c.args.self.now.card = look.ended before ∙ ap ended same.1 ∙ c.read-working.ensures.ended in
-    search (rules, ended_once, now, as_often)))
+    none (look.kept none) (look.through none) (look.next none) (look.knew none) (look.knows none) c.requires.idle refl refl refl (λ other. absurd (cc)) (λ _. look.same.1) (search rules))
 
 pub returns-clause-looked : goal.returns-clause-looked
 returns-clause-looked g c = λ _.
@@ -34,7 +29,7 @@ returns-clause-looked g c = λ _.
     let counted : counts c.args.self.now.card ≡ false = sym c.read-working.ensures.same.2 ∙ sym (ap counts same.1) ∙ sym c.if-counted-2.ensures in
     let all : c.if-counted.look ≡ false = elim c.if-counted.branch [ then-counted w ↦ absurd (cc) | else-counted w ↦ w.look-is ∙ ne_eqb c.read-working.result 0 c.if-working-eq0.false ] in
     inr (found_none c.args.run.now.space.now c.args.self.now c.begin_look.new.self c.look.new.self _ c.if-counted.look same.0 same.3 (record { near = begins.near; far = begins.far }) (all ∙ sym counted)
-    none (look.kept none) (look.through none) (look.next none) (look.knew none) (look.knows none) c.requires.idle refl refl refl (λ _ few. let more = c.saturating_add-self.ensures in let before = look.same.1 in omega (arith, more, before, few)) (λ other. absurd (cc)) (λ other. absurd (cc)))
+    none (look.kept none) (look.through none) (look.next none) (look.knew none) (look.knows none) c.requires.idle refl refl refl (λ _ few. let more = c.saturating_add-self.ensures in let before = look.same.1 in omega (arith, more, before, few)) (λ other. absurd (cc)) (look.as_before none ∙ ap counts same.1 ∙ c.read-working.ensures.same.2 ∙ counted))
 
 pub returns-then-has_task-clause-looked : goal.returns-then-has_task-clause-looked
 returns-then-has_task-clause-looked g c = λ _.
@@ -45,7 +40,7 @@ returns-then-has_task-clause-looked g c = λ _.
     let some = task_started c.look.new.self.worker.task (sym c.has_task.ensures ∙ c.if-has_task.true) in
     let read : last_read c.found.new.self.card ≡ Some c.read-working.result = search rules in
     inl (found_first g.G.Gate.knows c.args.self.now c.begin_look.new.self c.look.new.self c.found.new.self same.0 same.3 (record { near = begins.near; far = begins.far })
-    (look.plays some) (look.onward some) (look.before some)
+    (look.plays some) (look.onward some) (look.before some) (look.found some)
     (λ not unread.
     let counted : c.is_at_work-counted.result ≡ false = c.is_at_work-counted.ensures ∙ ap counts same.1 ∙ c.read-working.ensures.same.2 ∙ not in
     let all : c.if-counted.look ≡ false = elim c.if-counted.branch [ then-counted w ↦ absurd (cc) | else-counted w ↦ w.look-is ∙ ne_eqb c.read-working.result 0 (λ e. unread (read ∙ ap Some e)) ] in
@@ -61,11 +56,14 @@ returns-then-working-eq0-clause-looked g c = λ _.
     let same = c.begin_look.ensures.same in
     let look = c.look.ensures in
     let far = c.look_far.ensures in
+    let begins = c.begin_look.ensures.begins in
     let found = c.found-then-working-eq0.ensures in
+    let all : c.if-counted.look ≡ true = elim c.if-counted.branch [ then-counted w ↦ absurd (cc) | else-counted w ↦ w.look-is ∙ eq-eqb c.read-working.result 0 c.if-working-eq0.true ] in
     let none = none_there c.look.new.self.worker.task (sym c.has_task.ensures ∙ c.if-has_task.false) in
     let some = task_started c.look_far.new.self.worker.task (sym c.has_task-then-working-eq0.ensures ∙ c.if-not-has_task.false) in
     let read : last_read c.found-then-working-eq0.new.self.card ≡ Some 0 = ap last_read found.same.3 ∙ far.card.1 ∙ look.card.1 ∙ ap last_read same.1 ∙ c.read-working.ensures.read ∙ ap Some c.if-working-eq0.true in
-    inl (found_far g.G.Gate.knows c.args.self.now c.begin_look.new.self c.look.new.self c.look_far.new.self c.found-then-working-eq0.new.self same.0 c.requires.idle (look.kept none)
+    inl (found_far g.G.Gate.knows c.args.run.now.space.now c.args.self.now c.begin_look.new.self c.look.new.self c.look_far.new.self c.found-then-working-eq0.new.self same.0
+    (record { near = begins.near; far = begins.far }) (look.knows none) (subst (λ (b : Bool). LookedThrough c.begin_look.new.self.place (if b then c.look.new.self.known else min c.begin_look.new.self.known c.look.new.self.known) (view c.begin_look.new.self.worker.desk) (view c.look.new.self.worker.desk)) all (look.through none)) (far.found some) c.requires.idle (look.kept none)
     (far.plays some) (far.before some) read found.same.0 found.same.2 found.misses
     (sym c.read-working.ensures.same.2 ∙ sym (ap counts same.1) ∙ sym c.if-counted-2.ensures))
 

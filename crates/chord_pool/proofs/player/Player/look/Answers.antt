@@ -1,7 +1,7 @@
-use Rattle.std.proofs.Common.{ap, refl, ◌∙◌}
+use Rattle.std.proofs.Common.{◌+◌, ap, refl, ◌∙◌}
 use Rattle.chord_rule.specs.declared.view.View.{View}
 use Rattle.chord_space.specs.Desks.{view}
-use Rattle.chord_pool.proofs.Looking.{started_since, plays_since, began_from}
+use Rattle.chord_pool.proofs.Looking.{started_since, plays_since, began_from, through_from}
 use Rattle.chord_pool.proofs.player.Player.look.Goals as goal
 
 pub returns-clause-started : goal.returns-clause-started
@@ -20,3 +20,8 @@ returns-clause-began g c =
     let after = view c.find_work-self.new.worker.desk in
     began_from (view c.args.self.now.worker.desk) (view c.count-count.new.self.desk) after after c.args.self.now.card c.args.self.now.card c.find_work-self.new.card c.find_work-self.new.card
     (ap (λ (v : View). v.looked.seen) c.count-count.ensures.counted.2) refl refl refl refl c.find_work-self.ensures.began
+
+pub returns-clause-found : goal.returns-clause-found
+returns-clause-found g c = λ some.
+    through_from (view c.args.self.now.worker.desk) (view c.count-count.new.self.desk) (view c.find_work-self.new.worker.desk) c.args.self.now.place (c.find_work-self.result + 1)
+    (ap (λ (v : View). v.looked.seen) c.count-count.ensures.counted.2) (c.find_work-self.ensures.found some)
