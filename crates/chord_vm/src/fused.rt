@@ -1,7 +1,7 @@
 //! A load or a number and the instructions behind it, which are done at once: up to four.
 #![tactic(auto)]
 
-ghost use Rattle.std.specs.Prelude.{◌≡◌, ◌≢◌, ℕ, ℤ, suc, ◌+◌, ◌^◌, ◌<◌, true, false, List, [], ◌∷◌, IfSome, Some, slice_get};
+ghost use Rattle.std.specs.Prelude.{◌≡◌, ◌≢◌, ℕ, ℤ, suc, ◌+◌, ◌^◌, ◌<◌, true, false, List, [], ◌∷◌, IfSome, Some, None, slice_get};
 ghost use Rattle.chord_base.specs.Operators.{Is, compute as compute_of};
 ghost use Rattle.chord_base.specs.declared.value.Value.{Value as AValue};
 ghost use Rattle.chord_code.specs.declared.parts.Parts.{Parts as TheParts};
@@ -225,6 +225,7 @@ fn send_to_object(
     asked: &mut Option<Ask>,
 )
     requires fits { frames.old.top.place + 3 < 2 ^ 64 }
+    requires empty { asked.old ≡ None }
     ensures { SteppedTo (send_by method (with_pushed (Value.Int number) (with_pushed (Value.Ref object) (machine_of frames.old))) (Some (Value.Int number ∷ [], Value.Ref object ∷ (machine_of frames.old).top.stack))) asked.new frames.new }
 {
     frames.top.place += 3;
@@ -250,6 +251,7 @@ pub(crate) fn sends_loaded(
     requires here { instructions_in parts.now frames.old.top.block ≡ Some instructions.now }
     requires object { fetch parts.now frames.old.top.block frames.old.top.place ≡ Some (Instruction.Load slot) }
     requires argument { fetch parts.now frames.old.top.block (suc frames.old.top.place) ≡ Some (Instruction.Load argument) }
+    requires empty { asked.old ≡ None }
     ensures yes { result ≡ true → SteppedTo (run_of parts.now 3 (machine_of frames.old)) asked.new frames.new }
     ensures no { result ≡ false → frames.new ≡ frames.old }
     ensures unasked { result ≡ false → asked.new ≡ asked.old }
@@ -295,6 +297,7 @@ pub(crate) fn load_at_once(
     requires here { instructions_in parts.now frames.old.top.block ≡ Some instructions.now }
     requires load { fetch parts.now frames.old.top.block frames.old.top.place ≡ Some (Instruction.Load slot) }
     requires behind { fetch parts.now frames.old.top.block (suc frames.old.top.place) ≡ Some behind.now }
+    requires empty { asked.old ≡ None }
     ensures branch { result ≡ AtOnce.Branch → run_of parts.now 4 (machine_of frames.old) ≡ Goes (machine_of frames.new) }
     ensures block { result ≡ AtOnce.Branch → frames.new.top.block ≡ frames.old.top.block }
     ensures rest { result ≡ AtOnce.Branch → frames.new ≡ record frames.old { top = frames.new.top; turns = frames.new.turns } }
