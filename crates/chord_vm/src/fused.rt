@@ -145,7 +145,8 @@ fn compared_at(instructions: &[Instruction], place: usize, left: i32, right: i32
     }
 }
 
-/// Whether `again` or `skip` at a place branches on a truth value, which it then does. `again` does not where no turn is left.
+/// Whether `again` or `skip` at a place branches on a truth value, which it then does. Where no turn is left, `again` still goes on where the
+/// value is false, and does not go back where it is true: that is the end of the body.
 #[inline(always)]
 fn branch_at(frames: &mut Frames, instructions: &[Instruction], place: usize, flag: bool) -> bool
     ensures yes { result ≡ true → (code : TheParts) → act code (slice_get instructions.now place) (with_top (machine_of frames.old) place (Value.Flag flag ∷ (machine_of frames.old).top.stack) frames.old.top.slots.items frames.old.turns) ≡ Goes (machine_of frames.new) }
