@@ -217,7 +217,7 @@ fn method_sent(instructions: &[Instruction], place: usize) -> Option<u8>
 }
 
 /// A number is sent to an object.
-#[inline(never)]
+#[inline(always)]
 fn send_to_object(
     frames: &mut Frames,
     object: Object,

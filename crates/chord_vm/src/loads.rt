@@ -15,7 +15,7 @@ use chord_code::awaited::Awaited;
 use chord_code::instruction::Instruction;
 
 /// The body ends with a number.
-#[inline(never)]
+#[inline(always)]
 fn end_with_number(number: i32, asked: &mut Option<Ask>)
     requires empty { asked.old ≡ None }
     ensures { asked.new ≡ Some (Ask.End (End.Gives (Value.Int number))) }
@@ -24,7 +24,7 @@ fn end_with_number(number: i32, asked: &mut Option<Ask>)
 }
 
 /// A number is sent to the object on top.
-#[inline(never)]
+#[inline(always)]
 fn send_number(frames: &mut Frames, method: u8, number: i32, asked: &mut Option<Ask>)
     requires fits { frames.old.top.place + 2 < 2 ^ 64 }
     requires sound { send_by method (with_pushed (Value.Int number) (machine_of frames.old)) (Some (Value.Int number ∷ [], (machine_of frames.old).top.stack)) ≢ Bad }
@@ -45,7 +45,7 @@ fn send_number(frames: &mut Frames, method: u8, number: i32, asked: &mut Option<
 }
 
 /// An object is called without arguments.
-#[inline(never)]
+#[inline(always)]
 fn call_object(frames: &mut Frames, method: u8, object: Object, asked: &mut Option<Ask>)
     requires fits { frames.old.top.place + 2 < 2 ^ 64 }
     requires room { 0 < frames.old.top.room }
