@@ -17,7 +17,7 @@ most_held = 4096
 abbrev pub HoldsBack : Option (List ℕ) → Option (List ℕ) → List ℕ → Option (List ℕ) → Option (List ℕ) → Type 0
 HoldsBack before held text after left = IfSome held (λ bytes. length bytes + length text ≤ most_held → (after ≡ before) × (left ≡ Some (bytes ++ text)))
 
--- where a text does not fit behind what a pen held, what it held is written out: what it holds now is no longer than the text, and no more than it may hold
+-- where a pen held no more than it may, and a text does not fit behind that, all that it held is written out: what it holds now is no longer than the text, and no more than it may hold
 abbrev pub WritesOut : Option (List ℕ) → List ℕ → Option (List ℕ) → Type 0
 WritesOut held text left =
     IfSome held (λ bytes. length bytes ≤ most_held → most_held < length bytes + length text →
