@@ -8,10 +8,10 @@ use Rattle.chord_base.specs.Bounds.{AreWithin, IsJournal}
 use Rattle.chord_base.specs.declared.event.Entry.{Entry}
 use Rattle.chord_journal.specs.Text.{entry_text, header_text, journal_text}
 use Rattle.chord_journal.specs.Typed.{AreTyped}
-use Rattle.chord_journal.specs.Wrong.{IsEntryAt, AreEntriesFrom, BeginsWithLines, HasNoHeader, HasNoEntry, IsWrongBehind, IsWrongAt}
+use Rattle.chord_journal.specs.Wrong.{IsEntryAt, AreEntriesFrom, BeginsWithLines, HasNoHeader, HasEntries, HasNoEntry, IsWrongBehind, IsWrongAt}
 use Rattle.chord_journal.specs.Reading.{entry_at, header_at}
 use Rattle.chord_journal.proofs.Binds.{same_read}
-use Rattle.chord_journal.proofs.LineTexts.{entry_again, entry_takes, header_again}
+use Rattle.chord_journal.proofs.LineTexts.{entry_again, entry_takes, header_again, header_takes}
 
 -- where no header is read, none stands there
 pub no_header : (bytes : List ℕ) → header_at bytes ≡ None → HasNoHeader bytes
@@ -19,6 +19,18 @@ no_header bytes none count rest few is =
     let read = header_again count rest few in
     let other = ap header_at is in
     absurd (cc)
+
+-- a header that was read counts an entry, where a place stands below its count
+pub has_entries : (bytes : List ℕ) (count place : ℕ) (rest : List ℕ) → header_at bytes ≡ Some (count, rest) → place < count → HasEntries bytes
+has_entries bytes count place rest read below =
+    let (text, few) = header_takes bytes count rest read in
+    (count, rest, omega (arith, below), few, text)
+
+-- the header of the journal without an entry counts none
+pub none_counted : (bytes : List ℕ) → bytes ≡ journal_text [] → HasEntries bytes → ⊥
+none_counted bytes text (count, rest, some, few, header) =
+    let (none, last) = same_read count 0 rest [] (sym (header_again count rest few) ∙ ap header_at (sym header ∙ text) ∙ header_again 0 [] (omega arith)) in
+    omega (arith, some, none)
 
 -- where no line is read, none stands there
 pub no_entry_text : (place : ℕ) (bytes : List ℕ) → place < 65536 → entry_at place bytes ≡ None → HasNoEntry place bytes

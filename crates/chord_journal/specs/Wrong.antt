@@ -31,6 +31,10 @@ pub record BeginsWithLines (bytes : List ℕ) (count : ℕ) (entries : List Entr
 abbrev pub HasNoHeader : List ℕ → Type 0
 HasNoHeader bytes = (count : ℕ) (rest : List ℕ) → count ≤ 65536 → bytes ≢ header_text count ++ rest
 
+-- a header that counts at least one entry stands at the front
+abbrev pub HasEntries : List ℕ → Type 0
+HasEntries bytes = (count : ℕ) × (rest : List ℕ) × (0 < count) × (count ≤ 65536) × (bytes ≡ header_text count ++ rest)
+
 -- the line of an entry with this number does not stand at the front
 abbrev pub HasNoEntry : ℕ → List ℕ → Type 0
 HasNoEntry place bytes = (e : Entry) (rest : List ℕ) → IsEntryAt place e → bytes ≢ entry_text e ++ rest

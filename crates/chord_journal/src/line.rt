@@ -1,5 +1,5 @@
 //! Reading the line of an entry.
-ghost use Rattle.std.specs.Prelude.{◌<◌};
+ghost use Rattle.std.specs.Prelude.{◌≡◌, ◌<◌, IfErr};
 ghost use Rattle.chord_base.specs.declared.event.What.TheVariants.{Sent, Called};
 ghost use Rattle.chord_journal.specs.Reading.{ReadsAs, sending_at, calling_at, made_at, printed_at, ended_at, firing_at, end_at, what_at, entry_at};
 
@@ -57,7 +57,8 @@ fn read_what(alloc: Global, bytes: &[u8]) -> Result<(What, &[u8]), LineFault>
 /// The class of an object that is made.
 #[tactic(auto, unfolding(crate::specs::Reading::made_at))]
 fn read_made(bytes: &[u8]) -> Result<(What, &[u8]), LineFault>
-    ensures { ReadsAs (λ x. (x.0, x.1.now)) result (made_at bytes.now) }
+    ensures read { ReadsAs (λ x. (x.0, x.1.now)) result (made_at bytes.now) }
+    ensures fault { IfErr result (λ fault. fault ≡ LineFault.Wrong) }
 {
     let (class, rest) = read_number(bytes, 1024)?;
     Ok((What::Made(class as u16), rest))

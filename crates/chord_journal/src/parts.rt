@@ -1,5 +1,5 @@
 //! Reading the parts of a line from its front.
-ghost use Rattle.std.specs.Prelude.{◌≡◌, ◌<◌, ◌≤◌, None, IfOk, OnErr, IfSome, EachIndex, length, slice_index};
+ghost use Rattle.std.specs.Prelude.{◌≡◌, ◌<◌, ◌≤◌, None, IfOk, IfErr, OnErr, IfSome, EachIndex, length, slice_index};
 ghost use Rattle.std.specs.List.{prefix_len};
 ghost use Rattle.std.specs.Char.{is_ascii_digit};
 ghost use Rattle.chord_journal.specs.Reading.{ReadsAs, decimal_at, negative_at, value_if_below, int_at, byte_at, text_at, object_at};
@@ -32,6 +32,7 @@ impl<T: Drop> From<AllocFailed<T>> for LineFault {
 pub fn after<'a>(bytes: &'a [u8], text: &[u8]) -> Result<&'a [u8], LineFault>
     ensures read { ReadsAs (λ rest. rest.now) result (reading.after_text text.now bytes.now) }
     ensures wrong { OnErr result (reading.after_text text.now bytes.now ≡ None) }
+    ensures fault { IfErr result (λ fault. fault ≡ LineFault.Wrong) }
 {
     match bytes.strip_prefix(text) {
         Some(rest) => Ok(rest),
@@ -45,6 +46,7 @@ pub fn read_number(bytes: &[u8], bound: u32) -> Result<(u32, &[u8]), LineFault>
     requires { 0 < bound }
     ensures read { ReadsAs (λ x. (x.0, x.1.now)) result (decimal_at bound bytes.now) }
     ensures below { IfOk result (λ x. x.0 < bound) }
+    ensures fault { IfErr result (λ fault. fault ≡ LineFault.Wrong) }
 {
     let (digits, rest) = bytes.split_at(count_digits(bytes));
     if !is_decimal(digits) {
@@ -82,6 +84,7 @@ fn value_below(digits: &[u8], bound: u32) -> Result<u32, LineFault>
     requires digits { EachIndex digits.now (λ i. (48 ≤ slice_index digits.now i) × (slice_index digits.now i ≤ 57)) }
     ensures read { ReadsAs (λ x. x) result (value_if_below bound digits.now) }
     ensures below { IfOk result (λ x. x < bound) }
+    ensures fault { IfErr result (λ fault. fault ≡ LineFault.Wrong) }
 {
     let bound = u64::from(bound);
     let mut value = 0u64;
@@ -97,7 +100,8 @@ fn value_below(digits: &[u8], bound: u32) -> Result<u32, LineFault>
 /// A number of 32 bits, with a sign where it is negative.
 #[tactic(auto, unfolding(crate::specs::Reading::int_at, crate::specs::Reading::decimal_at))]
 pub fn read_int(bytes: &[u8]) -> Result<(i32, &[u8]), LineFault>
-    ensures { ReadsAs (λ x. (x.0, x.1.now)) result (int_at bytes.now) }
+    ensures read { ReadsAs (λ x. (x.0, x.1.now)) result (int_at bytes.now) }
+    ensures fault { IfErr result (λ fault. fault ≡ LineFault.Wrong) }
 {
     match bytes {
         [b'-', rest @ ..] => read_negative(rest),
@@ -111,7 +115,8 @@ pub fn read_int(bytes: &[u8]) -> Result<(i32, &[u8]), LineFault>
 /// The number of 32 bits that stands behind a sign.
 #[tactic(auto, unfolding(crate::specs::Reading::negative_at))]
 fn read_negative(bytes: &[u8]) -> Result<(i32, &[u8]), LineFault>
-    ensures { ReadsAs (λ x. (x.0, x.1.now)) result (negative_at bytes.now) }
+    ensures read { ReadsAs (λ x. (x.0, x.1.now)) result (negative_at bytes.now) }
+    ensures fault { IfErr result (λ fault. fault ≡ LineFault.Wrong) }
 {
     let (number, rest) = read_number(bytes, 2_147_483_649)?;
     if number == 0 {
@@ -124,7 +129,8 @@ fn read_negative(bytes: &[u8]) -> Result<(i32, &[u8]), LineFault>
 /// An object.
 #[tactic(auto, unfolding(crate::specs::Reading::object_at))]
 pub fn read_object(bytes: &[u8]) -> Result<(Object, &[u8]), LineFault>
-    ensures { ReadsAs (λ x. (x.0, x.1.now)) result (object_at bytes.now) }
+    ensures read { ReadsAs (λ x. (x.0, x.1.now)) result (object_at bytes.now) }
+    ensures fault { IfErr result (λ fault. fault ≡ LineFault.Wrong) }
 {
     let rest = after(bytes, b"o")?;
     let (number, rest) = read_number(rest, 65_536)?;
@@ -167,7 +173,8 @@ fn begins_digit(bytes: &[u8]) -> bool
 /// A byte: two hexadecimal digits.
 #[tactic(auto, unfolding(crate::specs::Reading::byte_at))]
 fn read_byte(bytes: &[u8]) -> Result<(u8, &[u8]), LineFault>
-    ensures { ReadsAs (λ x. (x.0, x.1.now)) result (byte_at bytes.now) }
+    ensures read { ReadsAs (λ x. (x.0, x.1.now)) result (byte_at bytes.now) }
+    ensures fault { IfErr result (λ fault. fault ≡ LineFault.Wrong) }
 {
     match bytes {
         [high, low, rest @ ..] => match (digit_of(*high), digit_of(*low)) {

@@ -1,10 +1,10 @@
 //! Reading the text of a journal.
-ghost use Rattle.std.specs.Prelude.{◌≡◌, ℕ, ◌≤◌, List, Ok, Err, IfOk};
+ghost use Rattle.std.specs.Prelude.{◌≡◌, ℕ, ◌≤◌, List, [], Ok, Err, IfOk, IfErr};
 ghost use Rattle.chord_base.specs.Bounds.{IsJournal};
 ghost use Rattle.chord_base.specs.declared.event.Entry.{Entry as AnEntry};
 ghost use Rattle.chord_journal.specs.Text.{journal_text};
 ghost use Rattle.chord_journal.specs.Typed.{AreTyped};
-ghost use Rattle.chord_journal.specs.Wrong.{IsWrongAt, UnlessMemory};
+ghost use Rattle.chord_journal.specs.Wrong.{IsWrongAt, HasNoHeader, HasEntries, UnlessMemory};
 ghost use Rattle.chord_journal.specs.Reading.{ReadsAs, header_at};
 ghost use Rattle.chord_journal.specs.declared.reading.JournalFault.TheVariants as faults;
 
@@ -49,6 +49,10 @@ pub fn read(alloc: Global, bytes: &[u8]) -> Result<Journal, JournalFault>
     ensures wrong { (k : ℕ) → result ≡ Err (JournalFault.At k) → IsWrongAt bytes.now k }
     // Where a line is the least that is wrong, it is named, unless memory runs out.
     ensures only_wrong { (k : ℕ) → IsWrongAt bytes.now k → UnlessMemory result (Err (JournalFault.At k)) }
+    // The header is read without memory: where there is none, that is told.
+    ensures header { HasNoHeader bytes.now → result ≡ Err (JournalFault.At 0) }
+    // The text of the journal without an entry is read without memory.
+    ensures empty { bytes.now ≡ journal_text [] → result ≡ Ok [] }
 {
     read_lines(alloc, bytes)
 }
@@ -57,6 +61,7 @@ pub fn read(alloc: Global, bytes: &[u8]) -> Result<Journal, JournalFault>
 fn read_lines(alloc: Global, bytes: &[u8]) -> Result<Journal, JournalFault>
     ensures found { IfOk result (λ journal. (bytes.now ≡ journal_text journal) × AreTyped journal × IsJournal journal) }
     ensures wrong { (k : ℕ) → result ≡ Err (JournalFault.At k) → IsWrongAt bytes.now k }
+    ensures memory { result ≡ Err JournalFault.Memory → HasEntries bytes.now }
 {
     let (count, rest) = match read_header(bytes) {
         Ok(header) => header,
@@ -86,6 +91,7 @@ fn read_lines(alloc: Global, bytes: &[u8]) -> Result<Journal, JournalFault>
 fn read_header(bytes: &[u8]) -> Result<(u32, &[u8]), LineFault>
     ensures read { ReadsAs (λ x. (x.0, x.1.now)) result (header_at bytes.now) }
     ensures few { IfOk result (λ x. x.0 ≤ 65536) }
+    ensures fault { IfErr result (λ fault. fault ≡ LineFault.Wrong) }
 {
     let rest = after(bytes, b"journal 1 ")?;
     let (count, rest) = read_number(rest, 65_537)?;

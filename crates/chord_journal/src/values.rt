@@ -1,5 +1,5 @@
 //! Reading values and numbers that stand behind blanks.
-ghost use Rattle.std.specs.Prelude.{◌≡◌, ◌<◌, ◌≤◌, IfOk};
+ghost use Rattle.std.specs.Prelude.{◌≡◌, ◌<◌, ◌≤◌, IfOk, IfErr};
 ghost use Rattle.chord_journal.specs.Reading.{ReadsAs, value_at, next_value_at, values_at, next_number_at, numbers_at};
 ghost use Rattle.chord_journal.specs.Reading as reading;
 
@@ -73,6 +73,7 @@ pub fn read_values(alloc: Global, most: usize, bytes: &[u8]) -> Result<(Values, 
 fn read_next_number(bytes: &[u8]) -> Result<(u32, &[u8]), LineFault>
     ensures read { ReadsAs (λ x. (x.0, x.1.now)) result (next_number_at bytes.now) }
     ensures below { IfOk result (λ x. x.0 < 65536) }
+    ensures fault { IfErr result (λ fault. fault ≡ LineFault.Wrong) }
 {
     let rest = after(bytes, b" ")?;
     read_number(rest, 65_536)
@@ -81,7 +82,8 @@ fn read_next_number(bytes: &[u8]) -> Result<(u32, &[u8]), LineFault>
 /// So many numbers of members, each behind a blank.
 pub fn read_members(count: u32, bytes: &[u8]) -> Result<(Members, &[u8]), LineFault>
     requires { count ≤ 8 }
-    ensures { ReadsAs (λ x. (x.0, x.1.now)) result (numbers_at count bytes.now) }
+    ensures read { ReadsAs (λ x. (x.0, x.1.now)) result (numbers_at count bytes.now) }
+    ensures fault { IfErr result (λ fault. fault ≡ LineFault.Wrong) }
 {
     let mut members = Members::new();
     let mut rest = bytes;

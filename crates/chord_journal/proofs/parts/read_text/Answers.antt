@@ -14,7 +14,7 @@ returns-in_err-byte c =
     let failed = err_from_is_err_and c.from_residual.result c.from_residual.ensures.1 in
     let begun = sym c.begins_digit.ensures ∙ c.loop-text-test.true in
     rw (failed.1, failed.2)
-    (Fails-whole _ (byte_at c.loop-text.rest.now) (text_at c.args.bytes.now) (λ wrong. sym c.loop-text.invariant ∙ many_wrong begins_digit byte_at _ _ _ begun wrong) c.in_err-byte.ensures)
+    (Fails-whole _ (byte_at c.loop-text.rest.now) (text_at c.args.bytes.now) (λ wrong. sym c.loop-text.invariant ∙ many_wrong begins_digit byte_at _ _ _ begun wrong) c.in_err-byte.ensures.read)
 
 pub returns-then-remaining_capacity-eq0 : goal.returns-then-remaining_capacity-eq0
 returns-then-remaining_capacity-eq0 c =
@@ -24,7 +24,7 @@ returns-then-remaining_capacity-eq0 c =
 pub loop-text-preserved : goal.loop-text-preserved
 loop-text-preserved c =
     let begun = sym c.begins_digit.ensures ∙ c.loop-text-test.true in
-    rw c.push.ensures.items (many_next begins_digit byte_at 1024 _ _ _ _ (omega (arith, c.remaining_capacity.ensures)) begun c.in_ok-byte.ensures ∙ c.loop-text.invariant)
+    rw c.push.ensures.items (many_next begins_digit byte_at 1024 _ _ _ _ (omega (arith, c.remaining_capacity.ensures)) begun c.in_ok-byte.ensures.read ∙ c.loop-text.invariant)
 
 pub returns-in-Ok : goal.returns-in-Ok
 returns-in-Ok c =

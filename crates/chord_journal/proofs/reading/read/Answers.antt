@@ -1,13 +1,13 @@
 -- Of each answer what its cause says, and by the laws of texts that no other cause can stand.
-use Rattle.std.proofs.Common.{◌≡◌, List, ℕ, Ok, Err, Result, ap, sym, ◌∙◌, refl, inl, inr, IfOk}
+use Rattle.std.proofs.Common.{◌≡◌, List, ℕ, Ok, Err, Result, ap, sym, ◌∙◌, refl, [], inl, inr, arith, IfOk}
 use Rattle.chord_base.specs.Bounds.{IsJournal}
 use Rattle.chord_base.specs.declared.event.Entry.{Entry}
 use Rattle.chord_journal.specs.Text.{journal_text}
 use Rattle.chord_journal.specs.Typed.{AreTyped}
-use Rattle.chord_journal.specs.Wrong.{IsWrongAt, UnlessMemory}
+use Rattle.chord_journal.specs.Wrong.{IsWrongAt, HasNoHeader, HasEntries, UnlessMemory}
 use Rattle.chord_journal.specs.declared.reading.JournalFault.{JournalFault}
 use Rattle.chord_journal.specs.declared.reading.JournalFault.TheVariants.{Memory, At}
-use Rattle.chord_journal.proofs.JournalTexts.{same_journal, text_not_wrong, wrong_once}
+use Rattle.chord_journal.proofs.JournalTexts.{is_journal, same_journal, text_not_wrong, wrong_once, none_counted}
 use Rattle.chord_journal.proofs.reading.read.Goals as goal
 
 -- what was read has these bytes as its text
@@ -31,8 +31,34 @@ only_wrong bytes (Ok journal) found named k wrong = absurd (text_not_wrong journ
 only_wrong bytes (Err Memory) found named k wrong = inl refl
 only_wrong bytes (Err (At j)) found named k wrong = inr (ap (λ (i : ℕ). Err (At i)) (wrong_once bytes j k (named j refl) wrong))
 
+-- memory runs out behind a header that counts an entry alone
+abbrev OnlyBehindHeader : List ℕ → Result (List Entry) JournalFault → Type 0
+OnlyBehindHeader bytes answer = answer ≡ Err Memory → HasEntries bytes
+
+header : (bytes : List ℕ) (answer : Result (List Entry) JournalFault) → IfOk answer (Found bytes) → Named bytes answer → OnlyBehindHeader bytes answer →
+    HasNoHeader bytes → answer ≡ Err (At 0)
+header bytes answer found named memory none =
+    elim (only_wrong bytes answer found named 0 none) [
+      | inl out ↦ let (count, rest, some, few, text) = memory out in absurd (none count rest few text)
+      | inr told ↦ told
+    ]
+
+empty : (bytes : List ℕ) (answer : Result (List Entry) JournalFault) → IfOk answer (Found bytes) → Named bytes answer → OnlyBehindHeader bytes answer →
+    bytes ≡ journal_text [] → answer ≡ Ok []
+empty bytes answer found named memory text =
+    elim (only bytes answer found named [] (is_journal [] (omega arith) tt) tt text) [
+      | inl out ↦ absurd (none_counted bytes text (memory out))
+      | inr read ↦ read
+    ]
+
 pub returns-clause-only : goal.returns-clause-only
 returns-clause-only c = only c.args.bytes.now c.read_lines.result c.read_lines.ensures.found c.read_lines.ensures.wrong
 
 pub returns-clause-only_wrong : goal.returns-clause-only_wrong
 returns-clause-only_wrong c = only_wrong c.args.bytes.now c.read_lines.result c.read_lines.ensures.found c.read_lines.ensures.wrong
+
+pub returns-clause-header : goal.returns-clause-header
+returns-clause-header c = header c.args.bytes.now c.read_lines.result c.read_lines.ensures.found c.read_lines.ensures.wrong c.read_lines.ensures.memory
+
+pub returns-clause-empty : goal.returns-clause-empty
+returns-clause-empty c = empty c.args.bytes.now c.read_lines.result c.read_lines.ensures.found c.read_lines.ensures.wrong c.read_lines.ensures.memory

@@ -6,7 +6,7 @@ use Rattle.chord_journal.specs.Wrong.{IsWrongAt}
 use Rattle.chord_journal.specs.declared.reading.JournalFault.{JournalFault}
 use Rattle.chord_journal.specs.declared.reading.JournalFault.TheVariants.{At}
 use Rattle.chord_journal.proofs.LineTexts.{header_takes}
-use Rattle.chord_journal.proofs.JournalTexts.{no_header, wrong_line, whole_text, begins_next, is_journal, entries_typed}
+use Rattle.chord_journal.proofs.JournalTexts.{no_header, has_entries, wrong_line, whole_text, begins_next, is_journal, entries_typed}
 use Rattle.chord_journal.proofs.reading.read_lines.Goals as goal
 
 -- a fault names one line
@@ -28,6 +28,14 @@ returns-in-Err-Wrong-read_entry-clause-wrong c k same =
     let none = (let read = c.in-Err-Wrong-read_entry.ensures in rw c.in-Err-Wrong-read_entry.field-0-is at read) in
     subst (λ line. IsWrongAt c.args.bytes.now line) (named (c.loop-place.place + 1) k same)
     (wrong_line _ _ _ _ c.loop-place.place c.loop-place.invariant.begun c.loop-place.invariant.long c.loop-place-test.true none)
+
+pub returns-in_err-push-in-Ok-read_entry-clause-memory : goal.returns-in_err-push-in-Ok-read_entry-clause-memory
+returns-in_err-push-in-Ok-read_entry-clause-memory c memory =
+    has_entries c.args.bytes.now c.in-Ok.header.0 c.loop-place.place c.in-Ok.header.1.now c.in-Ok.ensures.read c.loop-place-test.true
+
+pub returns-in-Err-Memory-read_entry-clause-memory : goal.returns-in-Err-Memory-read_entry-clause-memory
+returns-in-Err-Memory-read_entry-clause-memory c memory =
+    has_entries c.args.bytes.now c.in-Ok.header.0 c.loop-place.place c.in-Ok.header.1.now c.in-Ok.ensures.read c.loop-place-test.true
 
 pub loop-place-preserved : goal.loop-place-preserved
 loop-place-preserved c =

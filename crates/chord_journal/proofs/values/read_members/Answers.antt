@@ -11,8 +11,8 @@ loop-init c =
     let all : c.args.count - 0 ≡ c.args.count = omega arith in
     rw (c.new-members.ensures, all) (record { counted = omega arith; read = with_prefix_nothing _ })
 
-pub returns-in_err-number : goal.returns-in_err-number
-returns-in_err-number c =
+pub returns-in_err-number-clause-read : goal.returns-in_err-number-clause-read
+returns-in_err-number-clause-read c =
     let failed = err_from_is_err_and c.from_residual.result c.from_residual.ensures.1 in
     rw (failed.1, failed.2)
     (Fails-whole _ (next_number_at c.loop.rest.now) (numbers_at c.args.count c.args.bytes.now)
@@ -26,5 +26,5 @@ loop-preserved c =
       read = numbers_next c.args.count _ _ _ _ (omega (arith, c.loop.invariant.counted, c.loop-test.true)) c.in_ok-number.ensures.read ∙ c.loop.invariant.read;
     })
 
-pub returns : goal.returns
-returns c = sym c.loop.invariant.read ∙ numbers_end c.args.count _ _ (omega (arith, c.loop.invariant.counted, c.loop-test.false, c.loop.auto.counter-end))
+pub returns-clause-read : goal.returns-clause-read
+returns-clause-read c = sym c.loop.invariant.read ∙ numbers_end c.args.count _ _ (omega (arith, c.loop.invariant.counted, c.loop-test.false, c.loop.auto.counter-end))
