@@ -36,7 +36,7 @@ fn append(past: &mut Past, list: &mut Vec<Entry>, number: u32, body: u32, what: 
 }
 
 /// Adds the entry of an object. Entries are written by functions that take small things alone, since the place of a large one is cleared at each turn. What is
-/// made and printed stands apart, what is sent and called most often in line.
+/// made or printed is added by functions of their own, what is sent or called in line, and an end in `end_turn`.
 #[inline(never)]
 fn append_made(past: &mut Past, list: &mut Vec<Entry>, number: u32, body: u32, class: u16)
     requires { vec_len list.old < vec_capacity list.old }

@@ -269,22 +269,24 @@ ran_operator code f f' m n op i same pushed behind acts goes =
     let went = subst (λ (x : Frames). operate op (with_pushed (a_value.Int n) (machine_of x)) (a_value.Int n ∷ (machine_of x).top.stack) ≡ Goes m) same goes in
     first_of code 1 (machine_of f) between (Goes m) pushed (ran_once code between ∙ ap (λ o. act code o between) behind ∙ acts between ∙ went)
 
--- a run at work: the instruction at its place, and that it comes to what it came to where it began
-pub record IsAtWork (code : Parts) (start : Frames) (xs : List Instruction) (f : Frames) (i : Instruction) : Type 0 where
+-- a run at work: the instruction at its place, that it comes to what it came to where it began, and that nothing is asked yet
+pub record IsAtWork (code : Parts) (start : Frames) (xs : List Instruction) (f : Frames) (i : Instruction) (asked : Option Ask) : Type 0 where
   pub fetched : fetch code f.top.block f.top.place ≡ Some i
   pub here : instructions_in code f.top.block ≡ Some xs
   pub within : IsInstructionWithin i
   pub fits : f.top.place + 1 < 2 ^ 64
   pub defined : ComesToAsk code (machine_of f)
   pub goes_on : (a : Ask) (g : Frames) → Advanced code (machine_of f) a g → Advanced code (machine_of start) a g
+  pub empty : asked ≡ None
 
 -- a run at work still is after instructions that go on
-pub works_on : (code : Parts) (n : ℕ) (start : Frames) (xs xs' : List Instruction) (f f' : Frames) (i i' : Instruction) → IsAtWork code start xs f i → run code n (machine_of f) ≡ Goes (machine_of f') → instructions_in code f'.top.block ≡ Some xs' → fetch code f'.top.block f'.top.place ≡ Some i' → IsInstructionWithin i' → f'.top.place + 1 < 2 ^ 64 → IsAtWork code start xs' f' i'
-works_on code n start xs xs' f f' i i' w ran here fetched within fits = record {
+pub works_on : (code : Parts) (n : ℕ) (start : Frames) (xs xs' : List Instruction) (f f' : Frames) (i i' : Instruction) (asked asked' : Option Ask) → IsAtWork code start xs f i asked → run code n (machine_of f) ≡ Goes (machine_of f') → instructions_in code f'.top.block ≡ Some xs' → fetch code f'.top.block f'.top.place ≡ Some i' → IsInstructionWithin i' → f'.top.place + 1 < 2 ^ 64 → asked' ≡ None → IsAtWork code start xs' f' i' asked'
+works_on code n start xs xs' f f' i i' asked asked' w ran here fetched within fits empty = record {
   fetched = fetched;
   here = here;
   within = within;
   fits = fits;
   defined = ran_defined code n (machine_of f) (machine_of f') ran w.defined;
   goes_on = λ a g h. w.goes_on a g (ran_advanced code n (machine_of f) (machine_of f') a g ran h);
+  empty = empty;
 }

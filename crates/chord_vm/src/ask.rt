@@ -1,7 +1,7 @@
 //! What a body asks.
 #![tactic(auto)]
 
-ghost use Rattle.std.specs.Prelude.{◌≡◌, Some};
+ghost use Rattle.std.specs.Prelude.{◌≡◌, Some, None};
 
 use chord_base::event::End;
 use chord_base::text::Text;
@@ -23,9 +23,29 @@ pub enum Ask {
     End(End),
 }
 
-/// Puts an ask. What stood there is forgotten, since an assignment would look for what to drop: those who run a body hand in an empty place.
+/// Drops the ask that stands at a place.
+#[inline(never)]
+fn drop_old(asked: &mut Option<Ask>)
+    ensures { asked.new ≡ None }
+{
+    *asked = None;
+}
+
+/// Makes a place empty. A drop looks at each kind of ask, so it stands apart, where an empty place does not come to it.
+#[inline(always)]
+pub(crate) fn clear_ask(asked: &mut Option<Ask>)
+    ensures { asked.new ≡ None }
+{
+    match asked {
+        None => {}
+        Some(_) => drop_old(asked),
+    }
+}
+
+/// Puts an ask where there is none. The empty place is forgotten, since an assignment would look for what to drop.
 #[inline(always)]
 pub(crate) fn put_ask(asked: &mut Option<Ask>, ask: Ask)
+    requires empty { asked.old ≡ None }
     ensures { asked.new ≡ Some ask }
 {
     mem::forget(mem::replace(asked, Some(ask)));

@@ -1,7 +1,7 @@
 //! The frames of one body: its blocks at work, and how they begin and are answered without memory.
 #![tactic(auto)]
 
-ghost use Rattle.std.specs.Prelude.{◌≡◌, ◌≢◌, ◌+◌, ◌-◌, ◌<◌, ◌≤◌, true, false, List, [], ◌∷◌, ◌++◌, IfOk, IsOk, OnOk, All, Some, None, length, slice_get, vec_len, vec_capacity, reverse, replicate};
+ghost use Rattle.std.specs.Prelude.{◌≡◌, ◌≢◌, suc, ◌+◌, ◌-◌, ◌^◌, ◌<◌, ◌≤◌, true, false, List, [], ◌∷◌, ◌++◌, IfOk, IsOk, OnOk, All, Some, None, length, slice_get, vec_len, vec_capacity, reverse, replicate};
 ghost use Rattle.chord_code.specs.Slots.{first_slots};
 ghost use Rattle.chord_code.specs.Machine.{body_in_block, with_answer, with_object, pops};
 ghost use Rattle.chord_vm.specs.Frames.{shown_frame, machine_of, frame_with, IsAlwaysCopied, IsSpacious, IsReady, HasRoom, IsMoved, IsRoomFor, laid};
@@ -85,6 +85,40 @@ pub fn can_begin(code: &Code, limits: &Limits, frames: &Frames) -> bool
         return false;
     }
     frames.top.slots.capacity() >= code.most_slots() as usize
+}
+
+/// Pushes a value for which there is room, and goes to the next instruction.
+#[inline(always)]
+pub(crate) fn push_reserved(frame: &mut Frame, value: Value)
+    requires fits { frame.old.place + 1 < 2 ^ 64 }
+    requires room { vec_len frame.old.stack < vec_capacity frame.old.stack }
+    ensures { shown_frame frame.new ≡ frame_with (shown_frame frame.old) (suc frame.old.place) (value ∷ (shown_frame frame.old).stack) (shown_frame frame.old).slots }
+{
+    frame.stack.push_reserved(value);
+    frame.place += 1;
+}
+
+/// Takes room for one more operand.
+#[inline(never)]
+fn grow(frame: &mut Frame) -> Result<(), AllocError>
+    ensures same { shown_frame frame.new ≡ shown_frame frame.old }
+    ensures room { OnOk result (vec_len frame.new.stack < vec_capacity frame.new.stack) }
+{
+    frame.stack.reserve(1)?;
+    Ok(())
+}
+
+/// Pushes a value, and goes to the next instruction.
+#[inline(always)]
+pub(crate) fn push(frame: &mut Frame, value: Value) -> Result<(), AllocError>
+    requires { frame.old.place + 1 < 2 ^ 64 }
+    ensures { OnOk result (shown_frame frame.new ≡ frame_with (shown_frame frame.old) (suc frame.old.place) (value ∷ (shown_frame frame.old).stack) (shown_frame frame.old).slots) }
+{
+    if frame.stack.len() == frame.stack.capacity() {
+        grow(frame)?;
+    }
+    push_reserved(frame, value);
+    Ok(())
 }
 
 /// Pops. The stack keeps the room of the value.

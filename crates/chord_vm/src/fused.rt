@@ -1,7 +1,7 @@
 //! A load or a number and the instructions behind it, which are done at once: up to four.
 #![tactic(auto)]
 
-ghost use Rattle.std.specs.Prelude.{◌≡◌, ◌≢◌, ℕ, ℤ, suc, ◌+◌, ◌^◌, ◌<◌, true, false, List, [], ◌∷◌, IfSome, Some, slice_get};
+ghost use Rattle.std.specs.Prelude.{◌≡◌, ◌≢◌, ℕ, ℤ, suc, ◌+◌, ◌^◌, ◌<◌, true, false, List, [], ◌∷◌, IfSome, Some, None, slice_get};
 ghost use Rattle.chord_base.specs.Operators.{Is, compute as compute_of};
 ghost use Rattle.chord_base.specs.declared.value.Value.{Value as AValue};
 ghost use Rattle.chord_code.specs.declared.parts.Parts.{Parts as TheParts};
@@ -145,7 +145,8 @@ fn compared_at(instructions: &[Instruction], place: usize, left: i32, right: i32
     }
 }
 
-/// Whether `again` or `skip` at a place branches on a truth value, which it then does. `again` does not where no turn is left.
+/// Whether `again` or `skip` at a place branches on a truth value, which it then does. Where no turn is left, `again` still goes on where the
+/// value is false, and does not go back where it is true: that is the end of the body.
 #[inline(always)]
 fn branch_at(frames: &mut Frames, instructions: &[Instruction], place: usize, flag: bool) -> bool
     ensures yes { result ≡ true → (code : TheParts) → act code (slice_get instructions.now place) (with_top (machine_of frames.old) place (Value.Flag flag ∷ (machine_of frames.old).top.stack) frames.old.top.slots.items frames.old.turns) ≡ Goes (machine_of frames.new) }
@@ -216,7 +217,7 @@ fn method_sent(instructions: &[Instruction], place: usize) -> Option<u8>
 }
 
 /// A number is sent to an object.
-#[inline(never)]
+#[inline(always)]
 fn send_to_object(
     frames: &mut Frames,
     object: Object,
@@ -225,6 +226,7 @@ fn send_to_object(
     asked: &mut Option<Ask>,
 )
     requires fits { frames.old.top.place + 3 < 2 ^ 64 }
+    requires empty { asked.old ≡ None }
     ensures { SteppedTo (send_by method (with_pushed (Value.Int number) (with_pushed (Value.Ref object) (machine_of frames.old))) (Some (Value.Int number ∷ [], Value.Ref object ∷ (machine_of frames.old).top.stack))) asked.new frames.new }
 {
     frames.top.place += 3;
@@ -250,6 +252,7 @@ pub(crate) fn sends_loaded(
     requires here { instructions_in parts.now frames.old.top.block ≡ Some instructions.now }
     requires object { fetch parts.now frames.old.top.block frames.old.top.place ≡ Some (Instruction.Load slot) }
     requires argument { fetch parts.now frames.old.top.block (suc frames.old.top.place) ≡ Some (Instruction.Load argument) }
+    requires empty { asked.old ≡ None }
     ensures yes { result ≡ true → SteppedTo (run_of parts.now 3 (machine_of frames.old)) asked.new frames.new }
     ensures no { result ≡ false → frames.new ≡ frames.old }
     ensures unasked { result ≡ false → asked.new ≡ asked.old }
@@ -295,6 +298,7 @@ pub(crate) fn load_at_once(
     requires here { instructions_in parts.now frames.old.top.block ≡ Some instructions.now }
     requires load { fetch parts.now frames.old.top.block frames.old.top.place ≡ Some (Instruction.Load slot) }
     requires behind { fetch parts.now frames.old.top.block (suc frames.old.top.place) ≡ Some behind.now }
+    requires empty { asked.old ≡ None }
     ensures branch { result ≡ AtOnce.Branch → run_of parts.now 4 (machine_of frames.old) ≡ Goes (machine_of frames.new) }
     ensures block { result ≡ AtOnce.Branch → frames.new.top.block ≡ frames.old.top.block }
     ensures rest { result ≡ AtOnce.Branch → frames.new ≡ record frames.old { top = frames.new.top; turns = frames.new.turns } }

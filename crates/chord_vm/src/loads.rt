@@ -15,18 +15,20 @@ use chord_code::awaited::Awaited;
 use chord_code::instruction::Instruction;
 
 /// The body ends with a number.
-#[inline(never)]
+#[inline(always)]
 fn end_with_number(number: i32, asked: &mut Option<Ask>)
+    requires empty { asked.old ≡ None }
     ensures { asked.new ≡ Some (Ask.End (End.Gives (Value.Int number))) }
 {
     put_ask(asked, Ask::End(End::Gives(Value::Int(number))));
 }
 
 /// A number is sent to the object on top.
-#[inline(never)]
+#[inline(always)]
 fn send_number(frames: &mut Frames, method: u8, number: i32, asked: &mut Option<Ask>)
     requires fits { frames.old.top.place + 2 < 2 ^ 64 }
     requires sound { send_by method (with_pushed (Value.Int number) (machine_of frames.old)) (Some (Value.Int number ∷ [], (machine_of frames.old).top.stack)) ≢ Bad }
+    requires empty { asked.old ≡ None }
     ensures { SteppedTo (send_by method (with_pushed (Value.Int number) (machine_of frames.old)) (Some (Value.Int number ∷ [], (machine_of frames.old).top.stack))) asked.new frames.new }
 {
     match frames.top.stack.take_last() {
@@ -43,10 +45,11 @@ fn send_number(frames: &mut Frames, method: u8, number: i32, asked: &mut Option<
 }
 
 /// An object is called without arguments.
-#[inline(never)]
+#[inline(always)]
 fn call_object(frames: &mut Frames, method: u8, object: Object, asked: &mut Option<Ask>)
     requires fits { frames.old.top.place + 2 < 2 ^ 64 }
     requires room { 0 < frames.old.top.room }
+    requires empty { asked.old ≡ None }
     ensures { SteppedTo (call_by method (with_pushed (Value.Ref object) (machine_of frames.old)) (Some ([], Value.Ref object ∷ (machine_of frames.old).top.stack))) asked.new frames.new }
 {
     frames.top.place += 2;
@@ -58,6 +61,7 @@ fn call_object(frames: &mut Frames, method: u8, object: Object, asked: &mut Opti
 #[inline(always)]
 fn ends_at_once(frames: &Frames, slot: usize, asked: &mut Option<Ask>) -> bool
     requires there { slice_get frames.now.top.slots.items slot ≢ None }
+    requires empty { asked.old ≡ None }
     ensures yes { result ≡ true → (v : AValue) × (slice_get frames.now.top.slots.items slot ≡ Some v) × (asked.new ≡ Some (Ask.End (End.Gives v))) }
     ensures no { result ≡ false → asked.new ≡ asked.old }
 {
@@ -76,6 +80,7 @@ fn sends_at_once(frames: &mut Frames, slot: usize, method: u8, asked: &mut Optio
     requires fits { frames.old.top.place + 2 < 2 ^ 64 }
     requires there { slice_get frames.old.top.slots.items slot ≢ None }
     requires sound { (v : AValue) → slice_get frames.old.top.slots.items slot ≡ Some v → send_by method (with_pushed v (machine_of frames.old)) (Some (v ∷ [], (machine_of frames.old).top.stack)) ≢ Bad }
+    requires empty { asked.old ≡ None }
     ensures yes { result ≡ true → (v : AValue) × (slice_get frames.old.top.slots.items slot ≡ Some v) × SteppedTo (send_by method (with_pushed v (machine_of frames.old)) (Some (v ∷ [], (machine_of frames.old).top.stack))) asked.new frames.new }
     ensures no { result ≡ false → frames.new ≡ frames.old }
     ensures unasked { result ≡ false → asked.new ≡ asked.old }
@@ -95,6 +100,7 @@ fn sends_at_once(frames: &mut Frames, slot: usize, method: u8, asked: &mut Optio
 fn calls_at_once(frames: &mut Frames, slot: usize, method: u8, asked: &mut Option<Ask>) -> bool
     requires fits { frames.old.top.place + 2 < 2 ^ 64 }
     requires there { slice_get frames.old.top.slots.items slot ≢ None }
+    requires empty { asked.old ≡ None }
     ensures yes { result ≡ true → (v : AValue) × (slice_get frames.old.top.slots.items slot ≡ Some v) × SteppedTo (call_by method (with_pushed v (machine_of frames.old)) (Some ([], v ∷ (machine_of frames.old).top.stack))) asked.new frames.new }
     ensures no { result ≡ false → frames.new ≡ frames.old }
     ensures unasked { result ≡ false → asked.new ≡ asked.old }
@@ -124,6 +130,7 @@ pub(crate) fn asks_at_once(
     requires fits { frames.old.top.place + 2 < 2 ^ 64 }
     requires there { slice_get frames.old.top.slots.items slot ≢ None }
     requires sound { (code : TheParts) × ((v : AValue) → slice_get frames.old.top.slots.items slot ≡ Some v → act code (Some behind.now) (with_pushed v (machine_of frames.old)) ≢ Bad) }
+    requires empty { asked.old ≡ None }
     ensures yes { result ≡ true → (code : TheParts) → (v : AValue) × (slice_get frames.old.top.slots.items slot ≡ Some v) × SteppedTo (act code (Some behind.now) (with_pushed v (machine_of frames.old))) asked.new frames.new }
     ensures no { result ≡ false → frames.new ≡ frames.old }
     ensures unasked { result ≡ false → asked.new ≡ asked.old }

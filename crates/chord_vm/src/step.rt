@@ -1,7 +1,7 @@
 //! The instructions of a block at work.
 #![tactic(auto)]
 
-ghost use Rattle.std.specs.Prelude.{◌≡◌, ◌≢◌, ◌⊎◌, suc, ◌+◌, ◌^◌, ◌<◌, ◌≤◌, true, false, [], ◌∷◌, Option, IfOk, OnOk, Some, None, slice_get, vec_len, vec_capacity};
+ghost use Rattle.std.specs.Prelude.{◌≡◌, ◌≢◌, ◌⊎◌, suc, ◌+◌, ◌^◌, ◌<◌, ◌≤◌, true, false, [], ◌∷◌, Option, IfOk, OnOk, Some, None, slice_get};
 ghost use Rattle.chord_base.specs.Operators.{text_of};
 ghost use Rattle.chord_code.specs.Valid.{IsValid};
 ghost use Rattle.chord_code.specs.Within.{IsInstructionWithin};
@@ -10,8 +10,8 @@ ghost use Rattle.chord_vm.specs.Frames.{shown_frame, machine_of, HasStepped, fra
 ghost use Rattle.chord_vm.specs.declared.frames.Frames.{Frames as TheFrames};
 ghost use Rattle.chord_vm.specs.declared.ask.Ask.{Ask as AnAsk};
 
-use crate::ask::{Ask, put_ask};
-use crate::frames::{Frame, Frames, fill, move_last, take};
+use crate::ask::{Ask, clear_ask, put_ask};
+use crate::frames::{Frame, Frames, fill, move_last, push, push_reserved, take};
 use crate::fused::{AtOnce, load_at_once, stores_at_once};
 use crate::numbers::{operate_on, operator_of, put_value};
 use chord_base::event::{End, Limits, Trap};
@@ -60,40 +60,6 @@ fn moved(done: Result<(), AllocError>) -> After
     }
 }
 
-/// Pushes a value for which there is room, and goes to the next instruction.
-#[inline(always)]
-fn push_reserved(frame: &mut Frame, value: Value)
-    requires fits { frame.old.place + 1 < 2 ^ 64 }
-    requires room { vec_len frame.old.stack < vec_capacity frame.old.stack }
-    ensures { shown_frame frame.new ≡ frame_with (shown_frame frame.old) (suc frame.old.place) (value ∷ (shown_frame frame.old).stack) (shown_frame frame.old).slots }
-{
-    frame.stack.push_reserved(value);
-    frame.place += 1;
-}
-
-/// Takes room for one more operand.
-#[inline(never)]
-fn grow(frame: &mut Frame) -> Result<(), AllocError>
-    ensures same { shown_frame frame.new ≡ shown_frame frame.old }
-    ensures room { OnOk result (vec_len frame.new.stack < vec_capacity frame.new.stack) }
-{
-    frame.stack.reserve(1)?;
-    Ok(())
-}
-
-/// Pushes a value, and goes to the next instruction.
-#[inline(always)]
-fn push(frame: &mut Frame, value: Value) -> Result<(), AllocError>
-    requires { frame.old.place + 1 < 2 ^ 64 }
-    ensures { OnOk result (shown_frame frame.new ≡ frame_with (shown_frame frame.old) (suc frame.old.place) (value ∷ (shown_frame frame.old).stack) (shown_frame frame.old).slots) }
-{
-    if frame.stack.len() == frame.stack.capacity() {
-        grow(frame)?;
-    }
-    push_reserved(frame, value);
-    Ok(())
-}
-
 /// Pops values, so many, and gives them in the order in which they were pushed.
 #[inline(never)]
 fn take_all(alloc: Global, frame: &mut Frame, n: usize) -> Result<Values, AllocError>
@@ -119,7 +85,9 @@ fn step(
     requires fits { frames.old.top.place + 1 < 2 ^ 64 }
     requires within { IsInstructionWithin instruction.now }
     requires sound { act parts.now (Some instruction.now) (machine_of frames.old) ≢ Bad }
+    requires empty { asked.old ≡ None }
     ensures stepped { HasStepped (act parts.now (Some instruction.now) (machine_of frames.old)) result asked.new frames.new }
+    ensures unasked { result ≢ After.Asks → asked.new ≡ asked.old }
     ensures stays { result ≡ After.Goes → changes_block instruction.now ≡ false }
 {
     match instruction {
@@ -164,6 +132,7 @@ fn step(
 /// A trap ends the body.
 #[inline(never)]
 fn ends_by(trap: Trap, asked: &mut Option<Ask>) -> After
+    requires empty { asked.old ≡ None }
     ensures { (result ≡ After.Asks) × (asked.new ≡ Some (Ask.End (End.Traps trap))) }
 {
     put_ask(asked, Ask::End(End::Traps(trap)));
@@ -173,6 +142,7 @@ fn ends_by(trap: Trap, asked: &mut Option<Ask>) -> After
 /// `end`.
 #[inline(never)]
 fn end(asked: &mut Option<Ask>) -> After
+    requires empty { asked.old ≡ None }
     ensures { (result ≡ After.Asks) × (asked.new ≡ Some (Ask.End (End.Gives Value.Unit))) }
 {
     put_ask(asked, Ask::End(End::Gives(Value::Unit)));
@@ -183,7 +153,9 @@ fn end(asked: &mut Option<Ask>) -> After
 #[inline(always)]
 fn end_with_top(frames: &mut Frames, asked: &mut Option<Ask>) -> After
     requires sound { end_with (machine_of frames.old) (machine_of frames.old).top.stack ≢ Bad }
-    ensures { HasStepped (end_with (machine_of frames.old) (machine_of frames.old).top.stack) result asked.new frames.new }
+    requires empty { asked.old ≡ None }
+    ensures stepped { HasStepped (end_with (machine_of frames.old) (machine_of frames.old).top.stack) result asked.new frames.new }
+    ensures unasked { result ≢ After.Asks → asked.new ≡ asked.old }
 {
     let value = take(&mut frames.top);
     put_ask(asked, Ask::End(End::Gives(value)));
@@ -267,7 +239,9 @@ fn into_text(alloc: Global, value: Value) -> Result<Text, AllocError>
 fn print(alloc: Global, frames: &mut Frames, asked: &mut Option<Ask>) -> After
     requires fits { frames.old.top.place + 1 < 2 ^ 64 }
     requires sound { print_top (machine_of frames.old) (machine_of frames.old).top.stack ≢ Bad }
-    ensures { HasStepped (print_top (machine_of frames.old) (machine_of frames.old).top.stack) result asked.new frames.new }
+    requires empty { asked.old ≡ None }
+    ensures stepped { HasStepped (print_top (machine_of frames.old) (machine_of frames.old).top.stack) result asked.new frames.new }
+    ensures unasked { result ≢ After.Asks → asked.new ≡ asked.old }
 {
     let value = take(&mut frames.top);
     let Ok(text) = into_text(alloc, value) else {
@@ -349,7 +323,9 @@ fn operate(
 ) -> After
     requires fits { frames.old.top.place + 1 < 2 ^ 64 }
     requires sound { operate_of operation (machine_of frames.old) (machine_of frames.old).top.stack ≢ Bad }
-    ensures { HasStepped (operate_of operation (machine_of frames.old) (machine_of frames.old).top.stack) result asked.new frames.new }
+    requires empty { asked.old ≡ None }
+    ensures stepped { HasStepped (operate_of operation (machine_of frames.old) (machine_of frames.old).top.stack) result asked.new frames.new }
+    ensures unasked { result ≢ After.Asks → asked.new ≡ asked.old }
 {
     let right = take(&mut frames.top);
     let left = take(&mut frames.top);
@@ -382,7 +358,9 @@ fn skip(frames: &mut Frames, to: usize)
 fn again(frames: &mut Frames, to: usize, asked: &mut Option<Ask>) -> After
     requires fits { frames.old.top.place + 1 < 2 ^ 64 }
     requires sound { again_of to (machine_of frames.old) (machine_of frames.old).top.stack ≢ Bad }
-    ensures { HasStepped (again_of to (machine_of frames.old) (machine_of frames.old).top.stack) result asked.new frames.new }
+    requires empty { asked.old ≡ None }
+    ensures stepped { HasStepped (again_of to (machine_of frames.old) (machine_of frames.old).top.stack) result asked.new frames.new }
+    ensures unasked { result ≢ After.Asks → asked.new ≡ asked.old }
 {
     match take(&mut frames.top) {
         Value::Flag(true) => {
@@ -407,7 +385,9 @@ fn again(frames: &mut Frames, to: usize, asked: &mut Option<Ask>) -> After
 fn send_to(frames: &mut Frames, method: u8, arguments: Values, asked: &mut Option<Ask>) -> After
     requires fits { frames.old.top.place + 1 < 2 ^ 64 }
     requires sound { send_by method (machine_of frames.old) (Some (arguments, (machine_of frames.old).top.stack)) ≢ Bad }
-    ensures { HasStepped (send_by method (machine_of frames.old) (Some (arguments, (machine_of frames.old).top.stack))) result asked.new frames.new }
+    requires empty { asked.old ≡ None }
+    ensures stepped { HasStepped (send_by method (machine_of frames.old) (Some (arguments, (machine_of frames.old).top.stack))) result asked.new frames.new }
+    ensures unasked { result ≢ After.Asks → asked.new ≡ asked.old }
 {
     match take(&mut frames.top) {
         Value::Ref(object) => {
@@ -432,7 +412,9 @@ fn send_several(
     requires few { n ≤ 8 }
     requires fits { frames.old.top.place + 1 < 2 ^ 64 }
     requires sound { send_by method (machine_of frames.old) (pops n [] (machine_of frames.old).top.stack) ≢ Bad }
-    ensures { HasStepped (send_by method (machine_of frames.old) (pops n [] (machine_of frames.old).top.stack)) result asked.new frames.new }
+    requires empty { asked.old ≡ None }
+    ensures stepped { HasStepped (send_by method (machine_of frames.old) (pops n [] (machine_of frames.old).top.stack)) result asked.new frames.new }
+    ensures unasked { result ≢ After.Asks → asked.new ≡ asked.old }
 {
     let Ok(arguments) = take_all(alloc, &mut frames.top, n) else {
         return After::Fails;
@@ -446,7 +428,9 @@ fn send(alloc: Global, frames: &mut Frames, method: u8, n: usize, asked: &mut Op
     requires few { n ≤ 8 }
     requires fits { frames.old.top.place + 1 < 2 ^ 64 }
     requires sound { send_by method (machine_of frames.old) (pops n [] (machine_of frames.old).top.stack) ≢ Bad }
-    ensures { HasStepped (send_by method (machine_of frames.old) (pops n [] (machine_of frames.old).top.stack)) result asked.new frames.new }
+    requires empty { asked.old ≡ None }
+    ensures stepped { HasStepped (send_by method (machine_of frames.old) (pops n [] (machine_of frames.old).top.stack)) result asked.new frames.new }
+    ensures unasked { result ≢ After.Asks → asked.new ≡ asked.old }
 {
     if n == 0 {
         return send_to(frames, method, Values::none(), asked);
@@ -463,7 +447,9 @@ fn send(alloc: Global, frames: &mut Frames, method: u8, n: usize, asked: &mut Op
 fn call_of(frames: &mut Frames, method: u8, arguments: Values, asked: &mut Option<Ask>) -> After
     requires fits { frames.old.top.place + 1 < 2 ^ 64 }
     requires sound { call_by method (machine_of frames.old) (Some (arguments, (machine_of frames.old).top.stack)) ≢ Bad }
-    ensures { HasStepped (call_by method (machine_of frames.old) (Some (arguments, (machine_of frames.old).top.stack))) result asked.new frames.new }
+    requires empty { asked.old ≡ None }
+    ensures stepped { HasStepped (call_by method (machine_of frames.old) (Some (arguments, (machine_of frames.old).top.stack))) result asked.new frames.new }
+    ensures unasked { result ≢ After.Asks → asked.new ≡ asked.old }
 {
     match take(&mut frames.top) {
         Value::Ref(object) => {
@@ -491,7 +477,9 @@ fn call_several(
     requires few { n ≤ 8 }
     requires fits { frames.old.top.place + 1 < 2 ^ 64 }
     requires sound { call_by method (machine_of frames.old) (pops n [] (machine_of frames.old).top.stack) ≢ Bad }
-    ensures { HasStepped (call_by method (machine_of frames.old) (pops n [] (machine_of frames.old).top.stack)) result asked.new frames.new }
+    requires empty { asked.old ≡ None }
+    ensures stepped { HasStepped (call_by method (machine_of frames.old) (pops n [] (machine_of frames.old).top.stack)) result asked.new frames.new }
+    ensures unasked { result ≢ After.Asks → asked.new ≡ asked.old }
 {
     let Ok(arguments) = take_all(alloc, &mut frames.top, n) else {
         return After::Fails;
@@ -505,7 +493,9 @@ fn call(alloc: Global, frames: &mut Frames, method: u8, n: usize, asked: &mut Op
     requires few { n ≤ 8 }
     requires fits { frames.old.top.place + 1 < 2 ^ 64 }
     requires sound { call_by method (machine_of frames.old) (pops n [] (machine_of frames.old).top.stack) ≢ Bad }
-    ensures { HasStepped (call_by method (machine_of frames.old) (pops n [] (machine_of frames.old).top.stack)) result asked.new frames.new }
+    requires empty { asked.old ≡ None }
+    ensures stepped { HasStepped (call_by method (machine_of frames.old) (pops n [] (machine_of frames.old).top.stack)) result asked.new frames.new }
+    ensures unasked { result ≢ After.Asks → asked.new ≡ asked.old }
 {
     if n == 0 {
         return call_of(frames, method, Values::none(), asked);
@@ -522,7 +512,9 @@ fn call(alloc: Global, frames: &mut Frames, method: u8, n: usize, asked: &mut Op
 fn make(parts: &Parts, frames: &mut Frames, class: u16, n: u32, asked: &mut Option<Ask>) -> After
     requires fits { frames.old.top.place + 1 < 2 ^ 64 }
     requires sound { if_deeper frames.old.top.room (machine_of frames.old) (makes_object class n (machine_of frames.old) (builder_of parts.now class)) ≢ Bad }
-    ensures { HasStepped (if_deeper frames.old.top.room (machine_of frames.old) (makes_object class n (machine_of frames.old) (builder_of parts.now class))) result asked.new frames.new }
+    requires empty { asked.old ≡ None }
+    ensures stepped { HasStepped (if_deeper frames.old.top.room (machine_of frames.old) (makes_object class n (machine_of frames.old) (builder_of parts.now class))) result asked.new frames.new }
+    ensures unasked { result ≢ After.Asks → asked.new ≡ asked.old }
 {
     if frames.top.room == 0 {
         return ends_by(Trap::TooDeep, asked);
@@ -660,6 +652,7 @@ fn run(
 ) -> Result<(), AllocError>
     requires valid { IsValid parts.now }
     requires sound { ComesToAsk parts.now (machine_of frames.old) }
+    requires empty { asked.old ≡ None }
     ensures { OnOk result ((ask : Ask) × (asked.new ≡ Some ask) × Advanced parts.now (machine_of frames.old) ask frames.new) }
 {
     let mut instructions = at_work(parts, frames);
@@ -725,7 +718,8 @@ pub fn take_ask(asked: &mut Option<Ask>) -> Ask
     put(mem::replace(asked, None))
 }
 
-/// Runs to the next ask, which is put where the caller wants it. Where no memory is found, the frames can only be dropped.
+/// Runs to the next ask, which is put where the caller wants it; an ask that stood there is dropped. Where no memory is found, the frames can only
+/// be dropped.
 #[inline(always)]
 pub fn advance_to(
     alloc: Global,
@@ -736,6 +730,7 @@ pub fn advance_to(
     requires sound { ComesToAsk code.now (machine_of frames.old) }
     ensures { OnOk result ((ask : Ask) × (asked.new ≡ Some ask) × Advanced code.now (machine_of frames.old) ask frames.new) }
 {
+    clear_ask(asked);
     run(alloc, code.parts(), frames, asked)
 }
 

@@ -4,6 +4,7 @@ use Rattle.chord_code.specs.declared.instruction.Instruction.TheVariants as inst
 use Rattle.chord_code.specs.Machine.{act, step, loads, operate, run, Goes, Bad, ComesToAsk}
 use Rattle.chord_vm.specs.declared.frames.Frames.{Frames}
 use Rattle.chord_vm.specs.declared.step.After.TheVariants as steps
+use Rattle.chord_vm.specs.declared.fused.AtOnce.TheVariants as at_once
 use Rattle.chord_vm.specs.Frames.{machine_of, SteppedTo, instructions_in, with_pushed}
 use Rattle.chord_base.specs.declared.value.Value.TheVariants as a_value
 use Rattle.chord_vm.proofs.Advance.{not_bad, put_ask, went_to, moved_to, stepped_advanced, defined_on, ran_once, ran_defined, ran_lighter, ran_to_ask, ran_operator, works_on}
@@ -75,7 +76,7 @@ steps-preserved-in-Goes c =
     let g = went_to (act code (Some c.steps.instruction.now) m) c.step.result c.step.new.asked f c.in-Goes.is c.step.ensures.stepped in
     let ran : run code 1 m ≡ Goes (machine_of f) = ran_once code m ∙ ap (λ o. act code o m) c.steps.invariant.fetched ∙ g in
     let here = ap (instructions_in code) (stays code m (machine_of f) c.steps.instruction.now (c.step.ensures.stays c.in-Goes.is) g) ∙ c.steps.invariant.here in
-    works_on code 1 _ _ _ _ f _ _ c.steps.invariant ran here next.instruction next.within next.fits
+    works_on code 1 _ _ _ _ f _ _ _ _ c.steps.invariant ran here next.instruction next.within next.fits (c.step.ensures.unasked (λ e. let z : steps.Goes ≡ steps.Asks = sym c.in-Goes.is ∙ e in cc) ∙ c.steps.invariant.empty)
 
 pub steps-preserved : goal.steps-preserved
 steps-preserved c =
@@ -85,7 +86,7 @@ steps-preserved c =
     let next = c.next-instruction-in-Moves.ensures in
     let g = moved_to (act code (Some c.steps.instruction.now) m) c.step.result c.step.new.asked f c.in-Moves.is c.step.ensures.stepped in
     let ran : run code 1 m ≡ Goes (machine_of f) = ran_once code m ∙ ap (λ o. act code o m) c.steps.invariant.fetched ∙ g in
-    works_on code 1 _ _ _ _ f _ _ c.steps.invariant ran c.at_work-instructions-in-Moves.ensures next.instruction next.within next.fits
+    works_on code 1 _ _ _ _ f _ _ _ _ c.steps.invariant ran c.at_work-instructions-in-Moves.ensures next.instruction next.within next.fits (c.step.ensures.unasked (λ e. let z : steps.Moves ≡ steps.Asks = sym c.in-Moves.is ∙ e in cc) ∙ c.steps.invariant.empty)
 
 pub stores_at_once-requires-clause-operator : goal.stores_at_once-requires-clause-operator
 stores_at_once-requires-clause-operator c = λ m. ap (λ o. act c.args.parts.now o m) c.following.ensures.instruction ∙ c.in-Some.ensures.1 c.args.parts.now m
@@ -105,7 +106,7 @@ pub steps-preserved-then-stores_at_once : goal.steps-preserved-then-stores_at_on
 steps-preserved-then-stores_at_once c =
     let here = ap (instructions_in c.args.parts.now) c.stores_at_once.ensures.block ∙ c.steps.invariant.here in
     let next = c.next-instruction-then-stores_at_once.ensures in
-    works_on c.args.parts.now 3 _ _ _ _ c.stores_at_once.new.frames _ _ c.steps.invariant (c.stores_at_once.ensures.yes c.if-stores_at_once.true) here next.instruction next.within next.fits
+    works_on c.args.parts.now 3 _ _ _ _ c.stores_at_once.new.frames _ _ _ _ c.steps.invariant (c.stores_at_once.ensures.yes c.if-stores_at_once.true) here next.instruction next.within next.fits c.steps.invariant.empty
 
 pub next-instruction-requires-in-Branch-clause-sound : goal.next-instruction-requires-in-Branch-clause-sound
 next-instruction-requires-in-Branch-clause-sound c =
@@ -122,7 +123,7 @@ pub steps-preserved-in-Branch : goal.steps-preserved-in-Branch
 steps-preserved-in-Branch c =
     let here = ap (instructions_in c.args.parts.now) (c.load_at_once.ensures.block c.in-Branch.is) ∙ c.steps.invariant.here in
     let next = c.next-instruction-in-Branch.ensures in
-    works_on c.args.parts.now 4 _ _ _ _ c.load_at_once.new.frames _ _ c.steps.invariant (c.load_at_once.ensures.branch c.in-Branch.is) here next.instruction next.within next.fits
+    works_on c.args.parts.now 4 _ _ _ _ c.load_at_once.new.frames _ _ _ _ c.steps.invariant (c.load_at_once.ensures.branch c.in-Branch.is) here next.instruction next.within next.fits (c.load_at_once.ensures.unasked (λ e. let z : at_once.Branch ≡ at_once.Ask = sym c.in-Branch.is ∙ e in cc) ∙ c.steps.invariant.empty)
 
 pub returns-in-Ask : goal.returns-in-Ask
 returns-in-Ask c =
@@ -173,7 +174,7 @@ steps-preserved-in-Some c =
     let ran = ran_operator code c.steps.frames c.stores_at_once.new.frames (machine_of f) (to_z w32 (of_z w32 c.in-Int.number)) c.in-Some.operation _ same c.following.ensures.pushes c.following.ensures.instruction (c.in-Some.ensures.1 code) c.operate_on.ensures.goes in
     let here = ap (instructions_in code) (c.operate_on.ensures.block ∙ c.stores_at_once.ensures.block) ∙ c.steps.invariant.here in
     let next = c.next-instruction-in-Some.ensures in
-    works_on code 2 _ _ _ _ f _ _ c.steps.invariant ran here next.instruction next.within next.fits
+    works_on code 2 _ _ _ _ f _ _ _ _ c.steps.invariant ran here next.instruction next.within next.fits c.steps.invariant.empty
 
 pub next-instruction-requires-in-Load-clause-sound : goal.next-instruction-requires-in-Load-clause-sound
 next-instruction-requires-in-Load-clause-sound c =
@@ -201,4 +202,4 @@ steps-preserved-in-Load c =
     let l = subst (λ (x : Frames). loads (machine_of x) (slice_get x.top.slots.items c.in-Load.slot) ≡ Goes n) (c.load_at_once.ensures.nothing c.in-Nothing.is) c.in_ok-load.ensures in
     let ran : run code 1 m ≡ Goes n = ran_once code m ∙ ap (λ o. act code o m) (c.steps.invariant.fetched ∙ ap Some c.in-Load.is) ∙ l in
     let here = ap (instructions_in code) (stays code m n (instr.Load c.in-Load.slot) refl l) ∙ c.steps.invariant.here in
-    works_on code 1 _ _ _ _ c.load.new.frames _ _ c.steps.invariant ran here next.instruction next.within next.fits
+    works_on code 1 _ _ _ _ c.load.new.frames _ _ _ _ c.steps.invariant ran here next.instruction next.within next.fits (c.load_at_once.ensures.unasked (λ e. let z : at_once.Nothing ≡ at_once.Ask = sym c.in-Nothing.is ∙ e in cc) ∙ c.steps.invariant.empty)
