@@ -240,6 +240,13 @@ began_from u v w x c d e f same_before same_after same as_often so_often was = r
     moved : (a b : Bool) (x y z n : ℕ) → b ≡ a → y ≡ x → z ≡ y + (if b then 0 else n) → z ≡ x + (if a then 0 else n)
     moved a b x y z n same as_often later = rw (same, as_often) at later
 
+-- looks of a player that read before how many are at work: b is the player as it began to look, and d its card since it read
+pub began_since : (x b : Player) (d : Card) (w z : View) (e f : Card) → b.worker ≡ x.worker → b.card ≡ d → counts d ≡ counts x.card → ended d ≡ ended x.card
+    → z.looked.seen ≡ w.looked.seen → began f ≡ began e → BeganForEach (view b.worker.desk) w b.card e → BeganForEach (view x.worker.desk) z x.card f
+began_since x b d w z e f worker card counted as_often same_after so_often was =
+    let same = ap counts card ∙ counted in
+    began_from (view x.worker.desk) (view b.worker.desk) w z x.card b.card e f (ap (λ (y : Worker). (view y.desk).looked.seen) worker) same_after same (began_as x.card b.card same (ap ended card ∙ as_often)) so_often was
+
 -- nothing was looked at after looks, and the worker began no more
 pub began_on : (u v w : View) (c d e : Card) → w.looked.seen ≡ v.looked.seen → began e ≡ began d → BeganForEach u v c d → BeganForEach u w c e
 began_on u v w c d e same as_often was = record { looks = was.looks; seen = same ∙ was.seen; began_is = as_often ∙ was.began_is }

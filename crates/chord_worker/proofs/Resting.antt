@@ -1,19 +1,22 @@
--- A worker is at rest again after an entry of its task, and where it was told that the limit is reached.
-use Rattle.std.proofs.Common.{◌≡◌, ℕ, true, false, ◌∷◌, Option, Some, None, sym, ap, ◌∙◌, subst}
+-- A worker is at rest again after an entry of its task, and where it was told that the limit is reached, and what its look at a cell told it.
+use Rattle.std.proofs.Common.{◌≡◌, ℕ, true, false, ◌∷◌, Option, Some, None, refl, sym, ap, ◌∙◌, subst, inl}
 use Rattle.chord_base.specs.declared.event.Limits.{Limits}
 use Rattle.chord_base.specs.declared.event.What.{What}
 use Rattle.chord_code.specs.declared.parts.Parts.{Parts}
 use Rattle.chord_rule.specs.declared.view.View.{View}
 use Rattle.chord_rule.specs.Kinds.{entry}
+use Rattle.chord_rule.specs.Ways.{LastSeen}
 use Rattle.chord_space.specs.declared.space.Space.{Space}
 use Rattle.chord_space.specs.Desks.{view, space_code, space_limits, IsSameDesk}
 use Rattle.chord_task.specs.declared.parcel.Opened.{Opened as Parcel}
 use Rattle.chord_task.specs.declared.task.Task.{Task}
+use Rattle.chord_word.specs.declared.cells.Cell.TheVariants.{Ready}
+use Rattle.chord_word.specs.declared.cells.Word.{Word}
 use Rattle.chord_worker.specs.declared.worker.Worker.{Worker}
 use Rattle.chord_worker.specs.Playing.{DrawsOne, HeardOfLimit, IsNotedAs, IsNoMessage}
 use Rattle.chord_worker.proofs.Listed.{lists_same, one_more_listed}
 use Rattle.chord_worker.proofs.Memory.{task_laid}
-use Rattle.chord_worker.specs.Resting.{IsInMemory, MayContinue, IsHandFree, IsStock, IsAtRest, IsSameRole}
+use Rattle.chord_worker.specs.Resting.{IsInMemory, MayContinue, IsHandFree, IsStock, IsAtRest, IsSameRole, LastSawReady}
 
 -- a desk that drew an entry has its role still
 pub role_noted : (code : Parts) (limits : Limits) (v u : View) (t t' : Task) (n : ℕ) (what : What) → IsNotedAs code limits v u t t' n what → IsSameRole v u
@@ -32,6 +35,10 @@ role_told v u told = record {
   splits = ap (λ (z : View). z.splits) told.1;
   drawn = λ e. ap (λ (z : View). z.drawn) told.1 ∙ e;
 }
+
+-- a look at a cell that read that a firing is ready
+pub saw_ready : (v w : View) (i : ℕ) (x : Word) → w.looked.seen ≡ record { number = i; word = x } ∷ v.looked.seen → x.cell ≡ Ready → LastSawReady w i
+saw_ready v w i x seen ready = record { word = x; last = subst (LastSeen i x) (sym seen) (inl (refl, refl)); ready = ready }
 
 module _ (s : Space Parcel) (w : Worker) (t : Task) (r : IsAtRest s (record w { task = Some t })) (w' : Worker) (same : IsSameDesk w.desk w'.desk) where
   module _ (t' : Task) (n : ℕ) (what : What) (noted : IsNotedAs (space_code s) (space_limits s) (view w.desk) (view w'.desk) t t' n what) where

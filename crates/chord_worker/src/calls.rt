@@ -136,7 +136,6 @@ impl Worker {
         requires bounds { i < space.now.events }
         ensures rest { IsAtRest space.now self.new × (self.new.task ≡ None) }
         ensures seen { (x : Word) × (result ≡ x.cell) × IsSeen (view self.old.desk) (view self.new.desk) i x }
-        ensures ready { result ≡ Ready → LastSawReady (view self.new.desk) i }
     {
         space.look_cell(&mut self.desk, i).cell
     }

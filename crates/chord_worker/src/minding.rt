@@ -33,9 +33,9 @@ pub(crate) struct Minded {
     pub method: u8,
 }
 
-/// Makes a place for one more entry in the list. Whether there was memory for it.
+/// Reserves room in the list of draws for one entry more, ahead of the draw. Whether there was memory for it.
 #[inline(always)]
-fn make_place(draws: &mut Vec<Entry>) -> bool
+fn reserve_draw(draws: &mut Vec<Entry>) -> bool
     ensures items { draws.new.items ≡ draws.old.items }
     ensures room { result ≡ true → vec_len draws.new < vec_capacity draws.new }
 {
@@ -100,7 +100,7 @@ impl Worker {
         ensures lost { IfOk result (λ b. b ≡ false → (i : ℕ) × IsLost space.now.events (view self.old.desk) (view self.new.desk) members.now nexts.now i) }
     {
         let object = message.object;
-        if !make_place(&mut self.draws) {
+        if !reserve_draw(&mut self.draws) {
             self.drop_task();
             return Err(AllocError);
         }

@@ -4,9 +4,13 @@ use Rattle.chord_rule.specs.declared.view.View.{View}
 use Rattle.chord_rule.specs.Closing.{IsAsleep}
 use Rattle.chord_space.specs.Desks.{view}
 use Rattle.chord_word.specs.declared.cells.Cell.TheVariants as a_cell
+use Rattle.chord_worker.proofs.Resting.{saw_ready}
 use Rattle.chord_pool.proofs.Looking.{plays_since, none_there}
 use Rattle.chord_pool.proofs.Endings.{come_by_look, come_by_start, unready_by_look, unready_told, woken_unready, task_started}
 use Rattle.chord_pool.proofs.ending.is_awake.Goals as goal
+
+pub start-requires-clause-ready : goal.start-requires-clause-ready
+start-requires-clause-ready g c = let look = c.look.ensures.seen in saw_ready (view c.args.worker.now.desk) (view c.look.new.self.desk) c.args.i look.0 look.2.seen (sym look.1 ∙ c.in-Ready.is)
 
 pub returns-in-Ready-clause-stirred : goal.returns-in-Ready-clause-stirred
 returns-in-Ready-clause-stirred g c = λ e.

@@ -1,8 +1,14 @@
 use Rattle.std.proofs.Common.{◌≡◌, ◌∙◌, sym, false, rules}
 use Rattle.chord_roll.specs.Cards.{counts}
 use Rattle.chord_space.specs.Desks.{view}
+use Rattle.chord_worker.proofs.Resting.{saw_ready}
 use Rattle.chord_pool.proofs.Looking.{seen_twice, among_once, among_twice, through_once, through_twice, plays_since, began_unready, began_ready, began_once, began_and_ended, ended_once}
 use Rattle.chord_pool.proofs.player.try_start.Goals as goal
+
+pub start_at_work-started-requires-clause-ready : goal.start_at_work-started-requires-clause-ready
+start_at_work-started-requires-clause-ready g c =
+    let look = c.look.ensures.seen in
+    saw_ready (view c.args.worker.now.desk) (view c.look.new.self.desk) c.args.i look.0 look.2.seen (sym look.1 ∙ c.in-Ready.is)
 
 pub returns-else-not-started-clause-seen : goal.returns-else-not-started-clause-seen
 returns-else-not-started-clause-seen g c = λ e.

@@ -2,7 +2,7 @@ use Rattle.std.proofs.Common.{◌≡◌, ◌∙◌, refl, sym, ap, subst, min, i
 use Rattle.std.proofs.lemmas.Bool.{ne_eqb, eq-eqb}
 use Rattle.chord_roll.specs.Cards.{counts, ended, last_read}
 use Rattle.chord_pool.specs.Players.{began, LookedThrough}
-use Rattle.chord_pool.proofs.Looking.{none_there, found_first, found_far, found_none, began_as, began_off, began_more, began_from}
+use Rattle.chord_pool.proofs.Looking.{none_there, found_first, found_far, found_none, began_as, began_off, began_more, began_since}
 use Rattle.chord_pool.proofs.Endings.{task_started}
 use Rattle.chord_space.specs.Desks.{view}
 use Rattle.chord_worker.specs.declared.worker.Worker.{Worker}
@@ -70,60 +70,44 @@ returns-then-working-eq0-clause-looked g c = λ _.
 pub returns-then-has_task-clause-began : goal.returns-then-has_task-clause-began
 returns-then-has_task-clause-began g c =
     let same = c.begin_look.ensures.same in
-    let seen = ap (λ (w : Worker). (view w.desk).looked.seen) same.0 in
-    let as_before = ap counts same.1 ∙ c.read-working.ensures.same.2 in
-    let as_often = ap ended same.1 ∙ c.read-working.ensures.ended in
-    let first = began_as c.args.self.now.card c.begin_look.new.self.card as_before as_often in
+    let read = c.read-working.ensures in
     let found = c.found.ensures.same in
     let no_more : began c.found.new.self.card ≡ began c.look.new.self.card = began_as c.look.new.self.card c.found.new.self.card (search rules) (search rules) in
-    began_from (view c.args.self.now.worker.desk) (view c.begin_look.new.self.worker.desk) (view c.look.new.self.worker.desk) (view c.found.new.self.worker.desk)
-    c.args.self.now.card c.begin_look.new.self.card c.look.new.self.card c.found.new.self.card seen (ap (λ (w : Worker). (view w.desk).looked.seen) found.0) as_before first no_more c.look.ensures.began
+    began_since c.args.self.now c.begin_look.new.self _ (view c.look.new.self.worker.desk) (view c.found.new.self.worker.desk) c.look.new.self.card c.found.new.self.card same.0 same.1 read.same.2 read.ended
+    (ap (λ (w : Worker). (view w.desk).looked.seen) found.0) no_more c.look.ensures.began
 
 pub returns-then-counted-2-clause-began : goal.returns-then-counted-2-clause-began
 returns-then-counted-2-clause-began g c =
     let same = c.begin_look.ensures.same in
-    let seen = ap (λ (w : Worker). (view w.desk).looked.seen) same.0 in
-    let as_before = ap counts same.1 ∙ c.read-working.ensures.same.2 in
-    let as_often = ap ended same.1 ∙ c.read-working.ensures.ended in
-    let first = began_as c.args.self.now.card c.begin_look.new.self.card as_before as_often in
-    began_from (view c.args.self.now.worker.desk) (view c.begin_look.new.self.worker.desk) (view c.look.new.self.worker.desk) (view c.look.new.self.worker.desk)
-    c.args.self.now.card c.begin_look.new.self.card c.look.new.self.card _ seen refl as_before first (search (rules, began_off)) c.look.ensures.began
+    let read = c.read-working.ensures in
+    began_since c.args.self.now c.begin_look.new.self _ (view c.look.new.self.worker.desk) (view c.look.new.self.worker.desk) c.look.new.self.card _ same.0 same.1 read.same.2 read.ended
+    refl (search (rules, began_off)) c.look.ensures.began
 
 pub returns-then-not-has_task-clause-began : goal.returns-then-not-has_task-clause-began
 returns-then-not-has_task-clause-began g c =
     let same = c.begin_look.ensures.same in
-    let seen = ap (λ (w : Worker). (view w.desk).looked.seen) same.0 in
-    let as_before = ap counts same.1 ∙ c.read-working.ensures.same.2 in
-    let as_often = ap ended same.1 ∙ c.read-working.ensures.ended in
-    let first = began_as c.args.self.now.card c.begin_look.new.self.card as_before as_often in
+    let read = c.read-working.ensures in
     let none = none_there c.look.new.self.worker.task (sym c.has_task.ensures ∙ c.if-has_task.false) in
     let far = view c.look_far.new.self.worker.desk in
-    began_from (view c.args.self.now.worker.desk) (view c.begin_look.new.self.worker.desk) far far
-    c.args.self.now.card c.begin_look.new.self.card c.look_far.new.self.card c.look_far.new.self.card seen refl as_before first refl
+    began_since c.args.self.now c.begin_look.new.self _ far far c.look_far.new.self.card c.look_far.new.self.card same.0 same.1 read.same.2 read.ended refl refl
     (began_more (view c.begin_look.new.self.worker.desk) (view c.look.new.self.worker.desk) far c.begin_look.new.self.card c.look.new.self.card c.look_far.new.self.card
     (c.look.ensures.as_before none) c.look.ensures.began c.look_far.ensures.began)
 
 pub returns-then-working-eq0-clause-began : goal.returns-then-working-eq0-clause-began
 returns-then-working-eq0-clause-began g c =
     let same = c.begin_look.ensures.same in
-    let seen = ap (λ (w : Worker). (view w.desk).looked.seen) same.0 in
-    let as_before = ap counts same.1 ∙ c.read-working.ensures.same.2 in
-    let as_often = ap ended same.1 ∙ c.read-working.ensures.ended in
-    let first = began_as c.args.self.now.card c.begin_look.new.self.card as_before as_often in
+    let read = c.read-working.ensures in
     let none = none_there c.look.new.self.worker.task (sym c.has_task.ensures ∙ c.if-has_task.false) in
     let found = c.found-then-working-eq0.ensures.same in
     let far = view c.look_far.new.self.worker.desk in
-    began_from (view c.args.self.now.worker.desk) (view c.begin_look.new.self.worker.desk) far (view c.found-then-working-eq0.new.self.worker.desk)
-    c.args.self.now.card c.begin_look.new.self.card c.look_far.new.self.card c.found-then-working-eq0.new.self.card seen (ap (λ (w : Worker). (view w.desk).looked.seen) found.0) as_before first (ap began found.3)
+    began_since c.args.self.now c.begin_look.new.self _ far (view c.found-then-working-eq0.new.self.worker.desk) c.look_far.new.self.card c.found-then-working-eq0.new.self.card same.0 same.1 read.same.2 read.ended
+    (ap (λ (w : Worker). (view w.desk).looked.seen) found.0) (ap began found.3)
     (began_more (view c.begin_look.new.self.worker.desk) (view c.look.new.self.worker.desk) far c.begin_look.new.self.card c.look.new.self.card c.look_far.new.self.card
     (c.look.ensures.as_before none) c.look.ensures.began c.look_far.ensures.began)
 
 pub returns-clause-began : goal.returns-clause-began
 returns-clause-began g c =
     let same = c.begin_look.ensures.same in
-    let seen = ap (λ (w : Worker). (view w.desk).looked.seen) same.0 in
-    let as_before = ap counts same.1 ∙ c.read-working.ensures.same.2 in
-    let as_often = ap ended same.1 ∙ c.read-working.ensures.ended in
-    let first = began_as c.args.self.now.card c.begin_look.new.self.card as_before as_often in
-    began_from (view c.args.self.now.worker.desk) (view c.begin_look.new.self.worker.desk) (view c.look.new.self.worker.desk) (view c.look.new.self.worker.desk)
-    c.args.self.now.card c.begin_look.new.self.card c.look.new.self.card c.look.new.self.card seen refl as_before first refl c.look.ensures.began
+    let read = c.read-working.ensures in
+    began_since c.args.self.now c.begin_look.new.self _ (view c.look.new.self.worker.desk) (view c.look.new.self.worker.desk) c.look.new.self.card c.look.new.self.card same.0 same.1 read.same.2 read.ended
+    refl refl c.look.ensures.began
