@@ -17,6 +17,7 @@ use chord_bodies::body::Body;
 use chord_classes::build::table_of;
 use chord_classes::laws;
 use chord_classes::least::Least;
+use chord_classes::numbers::narrow;
 use chord_classes::table::Table;
 use chord_tree::classes::{Class, Member};
 use chord_tree::program::Program;
@@ -97,9 +98,7 @@ fn all_bodies<'t, 'a>(
     let mut bodies = Vec::new(alloc);
     let mut number: usize = 0;
     'each: for class in classes {
-        let Ok(own) = u32::try_from(number) else {
-            return Err(AllocError);
-        };
+        let own = narrow(number)?;
         class_bodies(alloc, table, own, &class.members, &mut bodies, breaks)?;
         number += 1;
     }
