@@ -1,7 +1,7 @@
 //! A program with its names and types: the least break of the rules on them, or its bodies resolved.
 #![tactic(auto)]
 
-ghost use Rattle.std.specs.Prelude.{◌≡◌, OnOk, IfOk, IfErr, map};
+ghost use Rattle.std.specs.Prelude.{◌≡◌, ℕ, ◌%◌, ◌/◌, OnOk, IfOk, IfErr, map};
 ghost use Rattle.chord_tree.specs.View.{tree_of, see_class, see_member};
 ghost use Rattle.chord_bodies.specs.BodyView.{view_body};
 ghost use Rattle.chord_classes.specs.Table.{table_of};
@@ -11,6 +11,7 @@ ghost use Rattle.chord_classes.specs.Least.{least};
 ghost use Rattle.chord_classes.specs.AllNotes.{all_notes};
 ghost use Rattle.chord_types.specs.Answer.{IsTypeFault, AreMembersChecked, AreClassesChecked};
 ghost use Rattle.chord_types.specs.Flat.{AreFlat};
+ghost use Rattle.chord_types.specs.declared.program.TypeFault.TheVariants as faults;
 
 use crate::members::member;
 use chord_bodies::body::Body;
@@ -111,6 +112,7 @@ fn told(program: &Program, breaks: &Least) -> Result<(), TypeFault>
     ensures none { OnOk result (breaks.now.found ≡ None) }
     ensures free { OnOk result (IsFree is_type_rule (tree_of program.now)) }
     ensures fault { IfErr result (λ fault. IsTypeFault (tree_of program.now) fault) }
+    ensures rule { IfErr result (λ fault. (key : ℕ) × (breaks.now.found ≡ Some key) × (fault ≡ faults.Rule (key % 32) (key / 32))) }
 {
     laws::least();
     let Some(key) = breaks.found else {
