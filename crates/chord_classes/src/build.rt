@@ -11,6 +11,7 @@ ghost use Rattle.chord_classes.specs.Entries.{IsGrown};
 use crate::main_headers::is_main;
 use crate::method::{Builder, access_of, method_of};
 use crate::methods::Methods;
+use crate::numbers::narrow;
 use crate::table::Table;
 use chord_tree::classes::{Class, Header, Member};
 use chord_tree::program::Program;
@@ -36,9 +37,7 @@ pub fn with_class<'a>(
     ensures { IfOk result (λ more. more ≡ table.entry ++ (shape_of table.entry (see_class class.now) ∷ [])) }
 {
     let base = table.base_of(class);
-    let Ok(number) = u32::try_from(table.class_count()) else {
-        return Err(AllocError);
-    };
+    let number = narrow(table.class_count())?;
     let own = with_members(&table, base, number, Methods::new(alloc), &class.members)?;
     let builder = first_builder(&class.members);
     table.with(class, base, own, builder)

@@ -4,7 +4,7 @@
 //! with its base. So a look-up takes time logarithmic in the program, however many classes stand above one.
 #![tactic(auto)]
 
-ghost use Rattle.std.specs.Prelude.{◌≡◌, List, [], ◌∷◌, ◌++◌, length, map, IfOk, Option, Some, None, is_some, option_map};
+ghost use Rattle.std.specs.Prelude.{◌≡◌, ◌<◌, ◌≤◌, ◌+◌, ◌⊎◌, List, [], ◌∷◌, ◌++◌, length, map, IfOk, OnOk, OnErr, Option, Some, None, is_some, option_map};
 ghost use Rattle.chord_tree.specs.View.{see_class, see_member};
 ghost use Rattle.chord_tree.specs.Walk.{headers_of};
 ghost use Rattle.chord_classes.specs.Table.{class_named, method_named, methods_at, derives, base_of, inherited, first_builder, shape_of};
@@ -162,10 +162,7 @@ impl<'a> Table<'a> {
     {
         let first = self.inherited_count(base);
         let Table { mut entries, index } = self;
-        let room = u32::MAX as usize;
-        if entries.len() >= room || first > room || own.all.len() > room - first {
-            return Err(AllocError);
-        }
+        have_room(entries.len(), first, own.all.len())?;
         let number = entries.len() as u32;
         let (line, owned) = (line_at(&entries, base), owned_at(&entries, base));
         let Indexed { index, line, owned } = index.with(
@@ -203,6 +200,18 @@ impl<'a> Table<'a> {
             },
         }
     }
+}
+
+/// Whether one more class and so many methods fit. More are of a program that no memory holds.
+fn have_room(classes: usize, inherited: usize, own: usize) -> Result<(), AllocError>
+    ensures fit { OnOk result ((classes < 4294967295) × (inherited + own ≤ 4294967295)) }
+    ensures large { OnErr result ((4294967295 ≤ classes) ⊎ (4294967296 ≤ inherited + own)) }
+{
+    let room = u32::MAX as usize;
+    if classes >= room || inherited > room || own > room - inherited {
+        return Err(AllocError);
+    }
+    Ok(())
 }
 
 /// The version by which it is told what a base class derives from.

@@ -5,6 +5,7 @@
 ghost use Rattle.std.specs.Prelude.{◌≡◌, ◌<◌, [], IfOk, length, ◌%◌, ◌/◌};
 ghost use Rattle.chord_classes.specs.Forks.{AreForks, IsVersion, IsNextVersion, IsFork, side, fork_of, under, with_side};
 
+use crate::numbers::narrow;
 use std::alloc::{AllocError, Global};
 use std::marker::Model;
 
@@ -130,9 +131,7 @@ impl Versions {
         requires even { IsVersion (length self.old) fork.even }
         ensures { IfOk result (λ made. IsFork self.old self.new fork made) }
     {
-        let Ok(made) = u32::try_from(self.forks.len()) else {
-            return Err(AllocError);
-        };
+        let made = narrow(self.forks.len())?;
         self.forks.push(fork)?;
         Ok(made)
     }

@@ -10,10 +10,11 @@ ghost use Rattle.chord_classes.specs.MethodViews.{see_method};
 ghost use Rattle.chord_rules.specs.Planning.{chord_bodies, base_methods, plan_parts};
 
 use crate::headers::is_sync;
-use crate::numbers::{after, among, narrow};
+use crate::numbers::among;
 use chord_bodies::plan::{ChordPlan, ClassPlan, MethodPlan};
 use chord_classes::main_headers::has_main;
 use chord_classes::method::Method;
+use chord_classes::numbers::{after, narrow};
 use chord_classes::table::Table;
 use chord_tree::classes::{Class, Header, Member};
 use std::alloc::{AllocError, Global};

@@ -21,7 +21,6 @@ use crate::declarations::{base_built, base_missing, declared_again, misnamed_con
 use crate::first_headers::first_headers;
 use crate::limits::{base_depth, base_past, chords_past, class_past};
 use crate::members::members_break;
-use crate::numbers::{after, narrow};
 use crate::overrides::headers_break;
 use crate::own_methods::own_methods;
 use crate::splits::{overridden, splits};
@@ -29,6 +28,7 @@ use chord_bodies::plan::{ChordPlan, ClassPlan};
 use chord_classes::build::first_builder;
 use chord_classes::least::Least;
 use chord_classes::methods::Methods;
+use chord_classes::numbers::{after, narrow};
 use chord_classes::table::Table;
 use chord_tree::classes::Class;
 use std::alloc::{AllocError, Global};

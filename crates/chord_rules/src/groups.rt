@@ -7,8 +7,9 @@ ghost use Rattle.std.specs.Prelude.{◌≡◌, IfOk, map, slice_index};
 ghost use Rattle.chord_bodies.specs.View.{view_chord_plan};
 ghost use Rattle.chord_rules.specs.Labels.{labels_of, merged_all, numbers, relabelled, AllIn, above_methods, above_chords};
 
-use crate::numbers::{among, narrow};
+use crate::numbers::among;
 use chord_bodies::plan::ChordPlan;
+use chord_classes::numbers::narrow;
 use std::alloc::{AllocError, Global};
 
 /// The label of each of the first methods: two methods have one label exactly where they are of one group.

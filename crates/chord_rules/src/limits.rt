@@ -8,9 +8,9 @@ ghost use Rattle.chord_classes.specs.ChordRules.{base_token, formal_tokens, head
 ghost use Rattle.chord_classes.specs.Least.{least, keys};
 ghost use Rattle.chord_rules.specs.Limits.{crowded_formals, base_depth};
 
-use crate::numbers::after;
 use chord_classes::least::Least;
 use chord_classes::main_headers::has_main;
+use chord_classes::numbers::after;
 use chord_classes::table::Table;
 use chord_tree::classes::{Class, Formal, Header, Member};
 use std::alloc::AllocError;

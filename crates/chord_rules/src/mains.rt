@@ -9,10 +9,10 @@ ghost use Rattle.chord_classes.specs.Least.{least, keys};
 ghost use Rattle.chord_rules.specs.Mains.{wrong_from, some_main, main_at, member_sum};
 
 use crate::headers::{is_static, may_be_overridden};
-use crate::numbers::after;
 use chord_classes::build::headers_of;
 use chord_classes::least::Least;
 use chord_classes::main_headers::{is_main, member_in_main};
+use chord_classes::numbers::after;
 use chord_tree::classes::{Class, Header, Member, ReturnType};
 use std::alloc::AllocError;
 

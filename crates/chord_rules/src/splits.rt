@@ -15,9 +15,10 @@ ghost use Rattle.chord_rules.specs.SplitHeaders.{overridden_number, spared_below
 use crate::first_headers::FirstHeaders;
 use crate::groups::{above_chords, label_at, labels};
 use crate::headers::overrides;
-use crate::numbers::{among, narrow};
+use crate::numbers::among;
 use chord_bodies::plan::ChordPlan;
 use chord_classes::least::Least;
+use chord_classes::numbers::narrow;
 use chord_classes::table::Table;
 use chord_tree::classes::Header;
 use std::alloc::{AllocError, Global};

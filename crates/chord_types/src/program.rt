@@ -1,7 +1,7 @@
 //! A program with its names and types: the least break of the rules on them, or its bodies resolved.
 #![tactic(auto)]
 
-ghost use Rattle.std.specs.Prelude.{◌≡◌, OnOk, IfOk, IfErr, map};
+ghost use Rattle.std.specs.Prelude.{◌≡◌, ℕ, ◌%◌, ◌/◌, OnOk, IfOk, IfErr, map};
 ghost use Rattle.chord_tree.specs.View.{tree_of, see_class, see_member};
 ghost use Rattle.chord_bodies.specs.BodyView.{view_body};
 ghost use Rattle.chord_classes.specs.Table.{table_of};
@@ -11,12 +11,14 @@ ghost use Rattle.chord_classes.specs.Least.{least};
 ghost use Rattle.chord_classes.specs.AllNotes.{all_notes};
 ghost use Rattle.chord_types.specs.Answer.{IsTypeFault, AreMembersChecked, AreClassesChecked};
 ghost use Rattle.chord_types.specs.Flat.{AreFlat};
+ghost use Rattle.chord_types.specs.declared.program.TypeFault.TheVariants as faults;
 
 use crate::members::member;
 use chord_bodies::body::Body;
 use chord_classes::build::table_of;
 use chord_classes::laws;
 use chord_classes::least::Least;
+use chord_classes::numbers::narrow;
 use chord_classes::table::Table;
 use chord_tree::classes::{Class, Member};
 use chord_tree::program::Program;
@@ -97,9 +99,7 @@ fn all_bodies<'t, 'a>(
     let mut bodies = Vec::new(alloc);
     let mut number: usize = 0;
     'each: for class in classes {
-        let Ok(own) = u32::try_from(number) else {
-            return Err(AllocError);
-        };
+        let own = narrow(number)?;
         class_bodies(alloc, table, own, &class.members, &mut bodies, breaks)?;
         number += 1;
     }
@@ -112,6 +112,7 @@ fn told(program: &Program, breaks: &Least) -> Result<(), TypeFault>
     ensures none { OnOk result (breaks.now.found ≡ None) }
     ensures free { OnOk result (IsFree is_type_rule (tree_of program.now)) }
     ensures fault { IfErr result (λ fault. IsTypeFault (tree_of program.now) fault) }
+    ensures rule { IfErr result (λ fault. (key : ℕ) × (breaks.now.found ≡ Some key) × (fault ≡ faults.Rule (key % 32) (key / 32))) }
 {
     laws::least();
     let Some(key) = breaks.found else {

@@ -5,6 +5,7 @@ use crate::operand::type_known;
 use crate::scope::{Local, Scope};
 use chord_base::static_type::StaticType;
 use chord_classes::method::Found;
+use chord_classes::numbers::after;
 use chord_classes::table::Table;
 use chord_tree::names::{Name, ValueType};
 use std::alloc::AllocError;
@@ -57,9 +58,7 @@ impl<'t, 'a> Site<'t, 'a> {
         ensures declared { OnOk result (Declares self.old self.new written.now name.now) }
     {
         let slot = self.next;
-        let Some(next) = slot.checked_add(1) else {
-            return Err(AllocError);
-        };
+        let next = after(slot, 1)?;
         self.types.push(type_known(self.table, written))?;
         self.scope.push(Local {
             name: name.text.items(),
