@@ -59,7 +59,7 @@ seen_twice v u w i x look again = record {
 }
 
 -- a cell in which no firing is ready
-not_ready : (c : Cell) → c ≢ Ready → is_ready c ≡ false
+pub not_ready : (c : Cell) → c ≢ Ready → is_ready c ≡ false
 not_ready Empty not = refl
 not_ready Pending not = refl
 not_ready Claimed not = refl
@@ -106,7 +106,7 @@ looked_started true v w i refused x started seen = record {
 looked_started false v w i refused x started seen = refused refl
 
 -- how many looks in two lists read that a firing is ready
-count_ready-append : (xs ys : List Look) → count_ready (xs ++ ys) ≡ count_ready xs + count_ready ys
+pub count_ready-append : (xs ys : List Look) → count_ready (xs ++ ys) ≡ count_ready xs + count_ready ys
 count_ready-append [] ys = omega arith
 count_ready-append (x ∷ xs) ys = let rest = count_ready-append xs ys in rw rest (omega arith)
 
