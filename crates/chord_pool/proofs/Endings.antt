@@ -130,6 +130,11 @@ pub task_started : (x : Option Task) → is_some x ≡ true → x ≢ None
 task_started None e h = let z : false ≡ true = e in absurd (cc)
 task_started (Some t) e h = none-some _ (sym h)
 
+-- and which it is
+pub task_there : (x : Option Task) → is_some x ≡ true → (t : Task) × (x ≡ Some t)
+task_there None e = let z : false ≡ true = e in absurd (cc)
+task_there (Some t) e = (t, refl)
+
 -- a worker without a task that is stirred after looks, in which its desk kept what it kept
 pub stirred_since : (knows : ℕ → Type 0) (i : ℕ) (u v w : Worker) → u.task ≡ None → (view v.desk).kept ≡ (view u.desk).kept → IsStirred knows i v w → IsStirred knows i u w
 stirred_since knows i u v w none same = ⊎_elim (λ plays. inl (plays_since knows u v w i none same plays)) (λ still. inr ((still.0.0, still.0.1 ∙ same), still.1))

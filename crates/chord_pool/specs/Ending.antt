@@ -13,7 +13,7 @@ use Rattle.chord_worker.specs.declared.worker.Worker.{Worker}
 use Rattle.chord_worker.specs.Resting.{IsAtRest}
 use Rattle.chord_worker.specs.Stepping.{DrewAStep, HasGoneOn, PlaysNext, PlaysFiring, StillPlays}
 use Rattle.chord_pool.specs.declared.ending.Alone.{Alone}
-use Rattle.chord_pool.specs.Players.{count_ready, AreAmong, IsSettled, IsUnready, LookedThrough}
+use Rattle.chord_pool.specs.Players.{count_ready, AreAmong, IsSettled, IsUnready, LookedAtAll, LookedAtNone, LookedThrough}
 
 -- each cell from `from` up to below `below` was looked at, and was last neither woken nor ready
 abbrev pub AreAwake : (from below : ℕ) → List Look → Type 0
@@ -74,14 +74,6 @@ pub record HadTurns (knows : ℕ → Type 0) (s : Space Parcel) (x y : Alone) : 
 -- the worker looked at the counter, which had reached the limit
 abbrev pub SawLimit : ℕ → View → Type 0
 SawLimit n v = (c : ℕ) × (v.looked.count ≡ Some c) × (min c n ≡ n)
-
--- between these views the desk looked at the numbers that the counter said were given, from the first on, and at no other ones
-abbrev pub LookedAtAll : Space Parcel → View → View → Type 0
-LookedAtAll s v w = (count : ℕ) × (w.looked.count ≡ Some count) × LookedThrough 0 (min count (events s)) v w
-
--- between these views the desk looked at no cell
-abbrev pub LookedAtNone : View → View → Type 0
-LookedAtNone v w = w.looked.seen ≡ v.looked.seen
 
 -- the first worker, alone, found that the run is over: it plays what it played and keeps what it kept, and was told that the limit is reached, or saw it, and looked at no cell, or it looked at all numbers from the first on
 pub record FoundRunOver (s : Space Parcel) (v w : Worker) : Type 0 where
