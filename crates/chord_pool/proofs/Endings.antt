@@ -5,7 +5,6 @@ use mathlib.Core.Logic.{dite}
 use mathlib.Core.Path.{Path}
 use native.Mathlib.Decide.{ℕ_discrete}
 use Rattle.chord_rule.specs.declared.view.Look.{Look}
-use Rattle.chord_rule.specs.declared.view.Looked.{Looked}
 use Rattle.chord_rule.specs.declared.view.View.{View}
 use Rattle.chord_rule.specs.Closing.{IsAsleep, MayClose, AreQuiet}
 use Rattle.chord_rule.specs.Kinds.{saw}

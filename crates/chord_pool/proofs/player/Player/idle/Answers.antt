@@ -85,8 +85,13 @@ returns-then-not-has_task-clause-gone g c = λ _.
     let vain = in_vain_near c.args.run.now.space.now c.args.self.now c.begin_look.new.self c.look.new.self same.0 (record { near = begins.near; far = begins.far }) counted (look.knows none)
     (subst (λ (b : Bool). LookedThrough c.begin_look.new.self.place (if b then c.look.new.self.known else min c.begin_look.new.self.known c.look.new.self.known) (view c.begin_look.new.self.worker.desk) (view c.look.new.self.worker.desk)) all (look.through none))
     (look.all all was_read none) in
-    inr (far.card.1 ∙ look.card.1 ∙ was_read, c.begin_look.new.self.place, view c.look.new.self.worker.desk, vain,
-    looked_again c.args.run.now.space.now c.begin_look.new.self.place c.look.new.self c.look_far.new.self far.stays (λ more. far.through more still) (λ more. far.knows more still))
+    inr (
+      far.card.1 ∙ look.card.1 ∙ was_read,
+      c.begin_look.new.self.place,
+      view c.look.new.self.worker.desk,
+      vain,
+      looked_again c.args.run.now.space.now c.begin_look.new.self.place c.look.new.self c.look_far.new.self far.stays (λ more. far.through more still) (λ more. far.knows more still),
+    )
 
 pub returns-then-has_task-clause-began : goal.returns-then-has_task-clause-began
 returns-then-has_task-clause-began g c =
