@@ -11,7 +11,7 @@ use Rattle.chord_rule.specs.Kinds.{saw}
 use Rattle.chord_rule.specs.Tells.{a_word}
 use Rattle.chord_rule.specs.Ways.{LastSeen}
 use Rattle.chord_roll.specs.declared.card.Card.{Card}
-use Rattle.chord_roll.specs.Cards.{counts, ended, last_read}
+use Rattle.chord_roll.specs.Cards.{counts, ended, last_read, reads}
 use Rattle.chord_roll.specs.Roll.{counted_as}
 use Rattle.chord_space.specs.declared.space.Space.{Space}
 use Rattle.chord_space.specs.Desks.{view}
@@ -390,8 +390,8 @@ in_vain_by s x k from v same was = record {
 }
 
 -- and then it went
-pub gone_by : (s : Space Parcel) (x y : Player) (k : Card) → counts k ≡ counts x.card → HasGone s (record x { card = k }) y → HasGone s x y
-gone_by s x y k same = ⊎_elim (λ spent. inl spent) (λ far. inr (far.0, far.1, far.2, in_vain_by s x k far.1 far.2 same far.3, far.4))
+pub gone_by : (s : Space Parcel) (x y : Player) (k : Card) → counts k ≡ counts x.card → reads k ≡ reads x.card → HasGone s (record x { card = k }) y → HasGone s x y
+gone_by s x y k same as_often = ⊎_elim (λ spent. inl spent) (λ far. inr (far.0 ∙ ap (λ (n : ℕ). n + 1) as_often, far.1, far.2, far.3, in_vain_by s x k far.2 far.3 same far.4, far.5))
 
 -- a look of a player with another card, which counted where this one does, and was counted off as often
 pub looked_by : (knows : ℕ → Type 0) (s : Space Parcel) (x y : Player) (k : Card) → counts k ≡ counts x.card → ended k ≡ ended x.card → HasLooked knows s (record x { card = k }) y → HasLooked knows s x y

@@ -1,7 +1,7 @@
 -- Rounds of a player, one after the other, and turns of the first worker alone.
 use Rattle.std.proofs.Common.{◌≡◌, ℕ, List, [], ◌∷◌, ◌++◌, true, false, refl, sym, ap, ◌∙◌, subst, ⊎_elim, inl, inr}
 use Rattle.chord_roll.specs.declared.card.Card.{Card}
-use Rattle.chord_roll.specs.Cards.{last_read, tells, IsSameCard}
+use Rattle.chord_roll.specs.Cards.{last_read, reads, tells, IsSameCard}
 use Rattle.chord_space.specs.declared.space.Space.{Space}
 use Rattle.chord_space.specs.Desks.{view}
 use Rattle.chord_task.specs.declared.parcel.Opened.{Opened as Parcel}
@@ -81,8 +81,8 @@ left_off_there knows s x y had lost = record {
 }
 
 -- rounds, and then more of them, after which the player left off and went
-pub left_off_later : (knows : ℕ → Type 0) (s : Space Parcel) (x y z w : Player) → HadRounds knows s x y → HasLeftOff knows s y z → w.worker ≡ z.worker → w.failed ≡ z.failed → began w.card ≡ began z.card → tells w.card ≡ tells z.card → last_read w.card ≡ last_read z.card → HasLeftOff knows s x w
-left_off_later knows s x y z w had later same_worker same_end as_often same_told same_read = record {
+pub left_off_later : (knows : ℕ → Type 0) (s : Space Parcel) (x y z w : Player) → HadRounds knows s x y → HasLeftOff knows s y z → w.worker ≡ z.worker → w.failed ≡ z.failed → began w.card ≡ began z.card → tells w.card ≡ tells z.card → last_read w.card ≡ last_read z.card → reads w.card ≡ reads z.card → HasLeftOff knows s x w
+left_off_later knows s x y z w had later same_worker same_end as_often same_told same_read read_as_often = record {
   last = later.last;
   had = more_rounds knows s x y later.last had later.had;
   off = λ sane. subst (λ (v : Worker). StillPlays (view later.last.worker.desk).kept later.last.worker.task v) (sym same_worker) (later.off (sym same_end ∙ sane));
@@ -96,7 +96,7 @@ left_off_later knows s x y z w had later same_worker same_end as_often same_told
       (later.short (sym same_end ∙ lost));
   gone = λ sane. ⊎_elim
       (λ spent. inl (subst (λ (v : Worker). (view v.desk).spent ≡ true) (sym same_worker) spent.0, same_worker ∙ spent.1))
-      (λ far. inr (same_read ∙ far.0, far.1, far.2, far.3, subst (λ (v : Worker). LookedAgain s far.1 far.2 (view v.desk)) (sym same_worker) far.4))
+      (λ far. inr (read_as_often ∙ far.0, same_read ∙ far.1, far.2, far.3, far.4, subst (λ (v : Worker). LookedAgain s far.2 far.3 (view v.desk)) (sym same_worker) far.5))
       (later.gone (sym same_end ∙ sane));
 }
 

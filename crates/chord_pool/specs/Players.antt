@@ -8,7 +8,7 @@ use Rattle.chord_rule.specs.declared.view.Look.{Look}
 use Rattle.chord_rule.specs.declared.view.View.{View}
 use Rattle.chord_rule.specs.Ways.{LastSeen}
 use Rattle.chord_roll.specs.declared.card.Card.{Card}
-use Rattle.chord_roll.specs.Cards.{counts, ended, hired, last_read, stops, tells, roll_of, IsFirstCard, IsSameCard}
+use Rattle.chord_roll.specs.Cards.{counts, ended, hired, last_read, reads, stops, tells, roll_of, IsFirstCard, IsSameCard}
 use Rattle.chord_roll.specs.Roll.{counted_as}
 use Rattle.chord_space.specs.declared.space.Space.{Space}
 use Rattle.chord_space.specs.Desks.{view, space_code, space_limits, program_of}
@@ -214,13 +214,14 @@ pub record HasFoundNone (s : Space Parcel) (x y : Player) : Type 0 where
 abbrev pub HasLooked : (ℕ → Type 0) → Space Parcel → Player → Player → Type 0
 HasLooked knows s x y = HasFound knows s x y ⊎ HasFoundNone s x y
 
--- a player went on with its task and counted all the while, drew entries of the body on top and at most one firing, plays no other task but a body of which the gate knows, and stands where it stood, or it looked for a firing, and if it did not count it began to once for each that it read ready
+-- a player went on with its task and counted all the while, drew entries of the body on top and at most one firing, plays no other task but a body of which the gate knows, and stands where it stood, or it read once how many are at work and looked for a firing, and if it did not count it began to once for each that it read ready
 pub record HadARound (knows : ℕ → Type 0) (s : Space Parcel) (x y : Player) : Type 0 where
   pub went : (t : Task) → x.worker.task ≡ Some t → HasGoneOn (view x.worker.desk).kept t y.worker
   pub plays : (t : Task) → x.worker.task ≡ Some t → PlaysNext knows (view x.worker.desk).kept t y.worker
   pub drew : (t : Task) → x.worker.task ≡ Some t → DrewAStep t (view x.worker.desk).draws (view y.worker.desk).draws
   pub stands : (t : Task) → x.worker.task ≡ Some t → StandsStill x y
   pub counted : (t : Task) → x.worker.task ≡ Some t → (counts x.card ≡ true) × CountsAsBefore x.card y.card
+  pub read : x.worker.task ≡ None → reads y.card ≡ reads x.card + 1
   pub looked : x.worker.task ≡ None → HasLooked knows s x y
   pub began_so : x.worker.task ≡ None → BeganForEach (view x.worker.desk) (view y.worker.desk) x.card y.card
 
@@ -264,11 +265,11 @@ HasFailed x y = y.failed ≡ true → (y.worker ≡ x.worker) ⊎ ((stops x.card
 abbrev pub LookedAgain : Space Parcel → ℕ → View → View → Type 0
 LookedAgain s from v w = ((from ≡ 0) × LookedAtNone v w) ⊎ ((0 < from) × LookedAtAll s v w)
 
--- a player that goes was told that the limit is reached and left its worker alone, or it read that nobody is at work, looked in vain, and looked again where that look left numbers out
+-- a player that goes was told that the limit is reached and left its worker alone, or it read once how many are at work, and that nobody is, looked in vain, and looked again where that look left numbers out
 abbrev pub HasGone : Space Parcel → Player → Player → Type 0
 HasGone s x y =
     (((view y.worker.desk).spent ≡ true) × (y.worker ≡ x.worker))
-    ⊎ ((last_read y.card ≡ Some 0) × (near : ℕ) × (v : View) × LookedInVain s x near v × LookedAgain s near v (view y.worker.desk))
+    ⊎ ((reads y.card ≡ reads x.card + 1) × (last_read y.card ≡ Some 0) × (near : ℕ) × (v : View) × LookedInVain s x near v × LookedAgain s near v (view y.worker.desk))
 
 -- the player had rounds and left off: it failed and had one step of its task at most, or it plays what it played after them, keeps what it kept and went; and it began to count no more often than it saw a firing to start
 pub record HasLeftOff (knows : ℕ → Type 0) (s : Space Parcel) (x y : Player) : Type 0 where

@@ -1,6 +1,6 @@
 //! A worker at its thread: it plays what it has, and looks for more.
 ghost use Rattle.std.specs.Prelude.{◌≡◌, ◌≢◌, ◌<◌, ◌≤◌, ◌+◌, ◌-◌, true, false, if◌then◌else◌, min, None, Some, is_some, IfNone, IfSome};
-ghost use Rattle.chord_roll.specs.Cards.{counts, ended, last_read, stops, tells, HasReadNothing, IsSameCard};
+ghost use Rattle.chord_roll.specs.Cards.{counts, ended, last_read, reads, stops, tells, HasReadNothing, IsSameCard};
 ghost use Rattle.chord_roll.specs.Roll.{counted_as};
 ghost use Rattle.chord_pool.specs.declared.player.Player.{Player as ThePlayer};
 ghost use Rattle.chord_space.specs.Desks.{view};
@@ -364,6 +364,7 @@ impl Player {
         ensures began { BeganForEach (view self.old.worker.desk) (view self.new.worker.desk) self.old.card self.new.card }
         ensures stays { counts self.old.card ≡ true → result ≡ true }
         ensures gone { result ≡ false → HasGone run.now.space.now self.old self.new }
+        ensures read { reads self.new.card ≡ reads self.old.card + 1 }
     {
         // Read before the look: what is posted later is posted by a worker that is at work now, or by one of those whose work
         // this look finds.

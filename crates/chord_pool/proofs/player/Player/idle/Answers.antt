@@ -1,6 +1,6 @@
 use Rattle.std.proofs.Common.{◌≡◌, ◌∙◌, refl, sym, ap, subst, min, if◌then◌else◌, Bool, true, false, Some, inl, inr, rules, arith}
 use Rattle.std.proofs.lemmas.Bool.{ne_eqb, eq-eqb}
-use Rattle.chord_roll.specs.Cards.{counts, ended, last_read}
+use Rattle.chord_roll.specs.Cards.{counts, ended, last_read, reads}
 use Rattle.chord_pool.specs.Players.{began, LookedThrough}
 use Rattle.chord_pool.proofs.Looking.{none_there, found_first, found_far, found_none, in_vain_near, behind, looked_again, began_as, began_off, began_more, began_from}
 use Rattle.chord_pool.proofs.Endings.{task_started}
@@ -86,6 +86,7 @@ returns-then-not-has_task-clause-gone g c = λ _.
     (subst (λ (b : Bool). LookedThrough c.begin_look.new.self.place (if b then c.look.new.self.known else min c.begin_look.new.self.known c.look.new.self.known) (view c.begin_look.new.self.worker.desk) (view c.look.new.self.worker.desk)) all (look.through none))
     (look.all all was_read none) in
     inr (
+      far.card.2 ∙ look.card.2 ∙ ap reads same.1 ∙ c.read-working.ensures.reads,
       far.card.1 ∙ look.card.1 ∙ was_read,
       c.begin_look.new.self.place,
       view c.look.new.self.worker.desk,

@@ -1,4 +1,4 @@
-use Rattle.std.proofs.Common.{◌≡◌, ◌∙◌, refl, sym, inl, inr, true, false, rules}
+use Rattle.std.proofs.Common.{◌≡◌, ◌∙◌, ◌+◌, ℕ, refl, sym, ap, inl, inr, true, false, rules}
 use Rattle.chord_space.specs.Desks.{view}
 use Rattle.chord_pool.proofs.Looking.{looked_by, gone_by, began_as, began_from, began_none}
 use Rattle.chord_pool.proofs.Endings.{task_there}
@@ -12,6 +12,7 @@ returns-clause-went g c = λ more.
       drew = search rules;
       stands = search rules;
       counted = search rules;
+      read = λ none. c.idle.ensures.read ∙ ap (λ (n : ℕ). n + 1) c.has_stopped.ensures.same.0.2;
       looked = λ none. looked_by g.G.Gate.knows c.args.run.now.space.now c.args.self.now c.idle.new.self c.has_stopped.new.self c.has_stopped.ensures.same.2 c.has_stopped.ensures.ended (c.idle.ensures.looked more);
       began_so = λ none.
           let before = view c.args.self.now.worker.desk in
@@ -55,7 +56,7 @@ pub returns-then-has_stopped-clause-short : goal.returns-then-has_stopped-clause
 returns-then-has_stopped-clause-short g c = λ _ told lost. inl refl
 
 pub returns-clause-gone : goal.returns-clause-gone
-returns-clause-gone g c = λ e sane. gone_by c.args.run.now.space.now c.args.self.now c.idle.new.self c.has_stopped.new.self c.has_stopped.ensures.same.2 (c.idle.ensures.gone e)
+returns-clause-gone g c = λ e sane. gone_by c.args.run.now.space.now c.args.self.now c.idle.new.self c.has_stopped.new.self c.has_stopped.ensures.same.2 c.has_stopped.ensures.same.0.2 (c.idle.ensures.gone e)
 
 pub returns-then-has_task-clause-gone : goal.returns-then-has_task-clause-gone
 returns-then-has_task-clause-gone g c = λ e sane. let z : true ≡ false = sym (c.advance.ensures.failed e) ∙ sane in absurd (cc)
