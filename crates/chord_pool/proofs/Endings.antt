@@ -1,11 +1,10 @@
 -- What the first worker knows of the cells that it looked at, and when it may close.
-use Rattle.std.proofs.Common.{◌≡◌, ◌≢◌, ◌⊎◌, inl, inr, ⊎_elim, ℕ, ◌+◌, ◌<◌, ◌≤◌, true, false, List, [], ◌∷◌, ◌++◌, append_assoc, Option, Some, None, is_some, min, refl, sym, ap, ◌∙◌, subst, arith}
+use Rattle.std.proofs.Common.{◌≡◌, ◌≢◌, ◌⊎◌, inl, inr, ⊎_elim, ℕ, ◌+◌, ◌<◌, ◌≤◌, true, false, List, [], ◌∷◌, ◌++◌, length-append, append_assoc, Option, Some, None, is_some, min, refl, sym, ap, ◌∙◌, subst, arith}
 use Rattle.std.proofs.lemmas.Option.{none-some}
 use mathlib.Core.Logic.{dite}
 use mathlib.Core.Path.{Path}
 use native.Mathlib.Decide.{ℕ_discrete}
 use Rattle.chord_rule.specs.declared.view.Look.{Look}
-use Rattle.chord_rule.specs.declared.view.Looked.{Looked}
 use Rattle.chord_rule.specs.declared.view.View.{View}
 use Rattle.chord_rule.specs.Closing.{IsAsleep, MayClose, AreQuiet}
 use Rattle.chord_rule.specs.Kinds.{saw}
@@ -26,9 +25,9 @@ use Rattle.chord_word.specs.declared.cells.Word.{Word}
 use Rattle.chord_worker.specs.declared.worker.Worker.{Worker}
 use Rattle.chord_worker.specs.Resting.{IsSameRole, IsSeen, beside_task}
 use Rattle.chord_pool.specs.declared.ending.Alone.{Alone}
-use Rattle.chord_pool.specs.Players.{AreAmong, IsFit, IsSettled, IsUnready, IsCrew, LookedThrough}
+use Rattle.chord_pool.specs.Players.{AreAmong, IsFit, IsSettled, IsUnready, IsCrew, LookedOnce, LookedThrough}
 use Rattle.chord_pool.specs.Ending.{AreAwake, HasComeTo, IsAloneWorker, IsLast, IsRunOver, IsStirred, SawAsleep, HasLookedAlone}
-use Rattle.chord_pool.proofs.Looking.{last_stays, among_more, plays_since, through_once, through_from}
+use Rattle.chord_pool.proofs.Looking.{last_stays, among_more, plays_since, not_ready, count_ready-append, through_once, through_from}
 
 -- the role of a desk stays over two steps
 pub role_stays : (u v w : View) → IsSameRole u v → IsSameRole v w → IsSameRole u w
@@ -53,25 +52,29 @@ awake_none : (i : ℕ) (looks : List Look) → AreAwake i i looks
 awake_none i looks k above low = absurd (omega (arith, above, low))
 
 -- a look at a cell that somebody has to look after
-pub come_by_look : (v w : View) (i : ℕ) (x : Word) → IsSeen v w i x → IsAsleep x.cell → HasComeTo i i v w
-come_by_look v w i x look asleep = record {
+pub come_by_look : (v w : View) (i : ℕ) (x : Word) → IsSeen v w i x → IsAsleep x.cell → x.cell ≢ Ready → HasComeTo i i v w
+come_by_look v w i x look asleep unready = record {
   onward = omega arith;
   looks = record { number = i; word = x } ∷ [];
   seen = look.seen;
   among = (omega arith, omega arith, tt);
   asleep = inl (refl, asleep);
   before = awake_none i w.looked.seen;
+  in_vain = let none = not_ready x.cell unready in rw none (omega arith);
+  ready = let none = not_ready x.cell unready in rw none (omega arith);
 }
 
--- a look at one, and one more at it
-pub come_by_start : (v u w : View) (i : ℕ) (x y : Word) → IsSeen v u i x → IsAsleep x.cell → w.looked ≡ (saw u i y).looked → HasComeTo i i v w
-come_by_start v u w i x y look asleep again = record {
+-- a look at a firing that was ready, and one more at it, of its start
+pub come_by_start : (v u w : View) (i : ℕ) (x : Word) → IsSeen v u i x → x.cell ≡ Ready → LookedOnce i u w → HasComeTo i i v w
+come_by_start v u w i x look ready again = record {
   onward = omega arith;
-  looks = record { number = i; word = y } ∷ record { number = i; word = x } ∷ [];
-  seen = ap (λ (l : Looked). l.seen) again ∙ ap (λ (l : List Look). record { number = i; word = y } ∷ l) look.seen;
+  looks = record { number = i; word = again.word } ∷ record { number = i; word = x } ∷ [];
+  seen = again.seen ∙ ap (λ (l : List Look). record { number = i; word = again.word } ∷ l) look.seen;
   among = (omega arith, omega arith, (omega arith, omega arith, tt));
-  asleep = inr (inl (refl, asleep));
+  asleep = inr (inl (refl, subst IsAsleep (sym ready) tt));
   before = awake_none i w.looked.seen;
+  in_vain = rw (not_ready again.word.cell again.unready, ready) (omega arith);
+  ready = rw (not_ready again.word.cell again.unready, ready) (omega arith);
 }
 
 -- cells that need not be looked after stay so, after looks at later ones alone
@@ -87,6 +90,8 @@ come_on from i u v w low awake was come = record {
   among = among_more from i come.looks was.looks low come.among was.among;
   asleep = saw_more i come.looks was.looks come.asleep;
   before = subst (AreAwake from i) (sym come.seen) (awake_stay from i (i + 1) come.looks v.looked.seen come.among awake);
+  in_vain = let long = length-append come.looks was.looks in let ready = count_ready-append come.looks was.looks in let a = come.in_vain in let b = was.in_vain in omega (arith, low, long, ready, a, b);
+  ready = let ready = count_ready-append come.looks was.looks in let a = come.ready in let b = was.ready in omega (arith, low, ready, a, b);
 }
   where
     saw_more : (i : ℕ) (xs ys : List Look) → SawAsleep i xs → SawAsleep i (xs ++ ys)
@@ -103,6 +108,8 @@ come_since from to u v w same come = record {
   among = come.among;
   asleep = come.asleep;
   before = come.before;
+  in_vain = come.in_vain;
+  ready = come.ready;
 }
 
 -- a look at a cell in which no firing is ready
@@ -121,6 +128,11 @@ woken_unready c q woken ready = absurd (cc)
 pub task_started : (x : Option Task) → is_some x ≡ true → x ≢ None
 task_started None e h = let z : false ≡ true = e in absurd (cc)
 task_started (Some t) e h = none-some _ (sym h)
+
+-- and which it is
+pub task_there : (x : Option Task) → is_some x ≡ true → (t : Task) × (x ≡ Some t)
+task_there None e = let z : false ≡ true = e in absurd (cc)
+task_there (Some t) e = (t, refl)
 
 -- a worker without a task that is stirred after looks, in which its desk kept what it kept
 pub stirred_since : (knows : ℕ → Type 0) (i : ℕ) (u v w : Worker) → u.task ≡ None → (view v.desk).kept ≡ (view u.desk).kept → IsStirred knows i v w → IsStirred knows i u w

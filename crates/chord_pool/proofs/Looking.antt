@@ -1,5 +1,6 @@
 -- What a worker that looks for a firing has seen.
-use Rattle.std.proofs.Common.{◌≡◌, ◌≢◌, ℕ, ◌+◌, ◌-◌, ◌<◌, ◌≤◌, min, max, Bool, true, false, if◌then◌else◌, Option, Some, None, is_some, List, [], ◌∷◌, ◌++◌, length-append, append_assoc, refl, sym, ap, ◌∙◌, subst, ⊎_elim, inl, inr, arith}
+use Rattle.std.proofs.Common.{◌≡◌, ◌≢◌, ℕ, zero, suc, ◌+◌, ◌-◌, ◌<◌, ◌≤◌, min, max, Bool, true, false, if◌then◌else◌, Option, Some, None, is_some, List, [], ◌∷◌, ◌++◌, length-append, append_assoc, refl, sym, ap, ◌∙◌, subst, ⊎_elim, inl, inr, arith}
+use Rattle.std.proofs.lemmas.Option.{same_Some}
 use mathlib.Core.Logic.{dite}
 use native.Mathlib.Decide.{ℕ_discrete}
 use Rattle.chord_base.specs.Story.{IsIn}
@@ -10,7 +11,7 @@ use Rattle.chord_rule.specs.Kinds.{saw}
 use Rattle.chord_rule.specs.Tells.{a_word}
 use Rattle.chord_rule.specs.Ways.{LastSeen}
 use Rattle.chord_roll.specs.declared.card.Card.{Card}
-use Rattle.chord_roll.specs.Cards.{counts, ended, last_read}
+use Rattle.chord_roll.specs.Cards.{counts, ended, last_read, reads}
 use Rattle.chord_roll.specs.Roll.{counted_as}
 use Rattle.chord_space.specs.declared.space.Space.{Space}
 use Rattle.chord_space.specs.Desks.{view}
@@ -23,7 +24,7 @@ use Rattle.chord_worker.specs.declared.worker.Worker.{Worker}
 use Rattle.chord_worker.specs.Resting.{IsSeen}
 use Rattle.chord_worker.specs.Stepping.{PlaysFiring}
 use Rattle.chord_pool.specs.declared.player.Player.{Player}
-use Rattle.chord_pool.specs.Players.{is_ready, count_ready, AreAmong, AreUnready, FoundNoneBelow, LookedAmong, LookedOnce, LookedThrough, BeganForEach, began, SawUnready, KnowsCount, HasStarted, BeginsLook, HasFound, HasFoundNone, HasLooked}
+use Rattle.chord_pool.specs.Players.{is_ready, count_ready, AreAmong, AreUnready, FoundNoneBelow, LookedAmong, LookedOnce, LookedThrough, BeganForEach, began, SawUnready, FoundNone, KnowsCount, HasStarted, BeginsLook, LookedInVain, LookedAgain, HasGone, HasFound, HasFoundNone, HasLooked}
 
 -- a look at a cell that is not ready
 pub seen_once : (v w : View) (i : ℕ) (x : Word) → IsSeen v w i x → x.cell ≢ Ready → SawUnready v w i
@@ -59,7 +60,7 @@ seen_twice v u w i x look again = record {
 }
 
 -- a cell in which no firing is ready
-not_ready : (c : Cell) → c ≢ Ready → is_ready c ≡ false
+pub not_ready : (c : Cell) → c ≢ Ready → is_ready c ≡ false
 not_ready Empty not = refl
 not_ready Pending not = refl
 not_ready Claimed not = refl
@@ -106,7 +107,7 @@ looked_started true v w i refused x started seen = record {
 looked_started false v w i refused x started seen = refused refl
 
 -- how many looks in two lists read that a firing is ready
-count_ready-append : (xs ys : List Look) → count_ready (xs ++ ys) ≡ count_ready xs + count_ready ys
+pub count_ready-append : (xs ys : List Look) → count_ready (xs ++ ys) ≡ count_ready xs + count_ready ys
 count_ready-append [] ys = omega arith
 count_ready-append (x ∷ xs) ys = let rest = count_ready-append xs ys in rw rest (omega arith)
 
@@ -303,40 +304,62 @@ pub started_since : (knows : ℕ → Type 0) (u v w : Worker) → u.task ≡ Non
 started_since knows u v w none same started = (started.0, plays_since knows u v w started.0 none same started.1)
 
 -- a player that looked and found a firing, where b is the player as it began to look, and l as it was after it
-pub found_first : (knows : ℕ → Type 0) (x b l y : Player) → b.worker ≡ x.worker → b.known ≡ x.known → BeginsLook x b.place b.misses
+pub found_first : (knows : ℕ → Type 0) (s : Space Parcel) (x b l y : Player) → b.worker ≡ x.worker → b.known ≡ x.known → BeginsLook x b.place b.misses
     → PlaysFiring knows (view b.worker.desk).kept b.worker.task l.worker l.place → b.place ≤ l.place → AreUnready b.place l.place (view l.worker.desk).looked.seen
-    → LookedThrough b.place (l.place + 1) (view b.worker.desk) (view l.worker.desk) → (counts x.card ≡ false → last_read y.card ≢ Some 0 → l.place < b.known) → y.worker ≡ l.worker → y.place ≡ l.place → y.misses ≡ 0 → (counts x.card ≡ true → ended y.card ≡ ended x.card) → HasFound knows x y
-found_first knows x b l y worker known begins plays onward before through fresh same_worker same_place missed throughout = record {
+    → LookedThrough b.place (l.place + 1) (view b.worker.desk) (view l.worker.desk) → (counts x.card ≡ false → last_read y.card ≢ Some 0 → l.place < b.known) → y.worker ≡ l.worker → y.place ≡ l.place → y.misses ≡ 0 → (counts x.card ≡ true → ended y.card ≡ ended x.card) → HasFound knows s x y
+found_first knows s x b l y worker known begins plays onward before through fresh same_worker same_place missed throughout = record {
   from = b.place;
-  begins = inl (b.misses, begins);
   onward = subst (λ (n : ℕ). b.place ≤ n) (sym same_place) onward;
   before = rw (same_worker, same_place) before;
-  through = (view b.worker.desk, inl (ap (λ (w : Worker). (view w.desk).looked.seen) worker), rw (same_worker, same_place) through);
+  through = (view b.worker.desk, inl (b.misses, begins, ap (λ (w : Worker). (view w.desk).looked.seen) worker), rw (same_worker, same_place) through);
   fresh = λ not unread. let low = fresh not unread in omega (arith, low, same_place, known);
   plays = rw (same_worker, same_place, sym worker) plays;
   misses = missed;
   throughout = throughout;
 }
 
--- a player that did not count, read that nobody is at work, found none and then looked from the first number on, and found a firing: it was l before that look, and z after it
-pub found_far : (knows : ℕ → Type 0) (s : Space Parcel) (x b l z y : Player) → b.worker ≡ x.worker → BeginsLook x b.place b.misses → KnowsCount s l
-    → LookedThrough b.place l.known (view b.worker.desk) (view l.worker.desk) → LookedThrough 0 (z.place + 1) (view l.worker.desk) (view z.worker.desk) → x.worker.task ≡ None → (view l.worker.desk).kept ≡ (view b.worker.desk).kept
+-- a player that did not count looked among all numbers from where its look begins, and found none: it was b before that look, and l after it
+pub in_vain_near : (s : Space Parcel) (x b l : Player) → b.worker ≡ x.worker → BeginsLook x b.place b.misses → counts x.card ≡ false → KnowsCount s l
+    → LookedThrough b.place l.known (view b.worker.desk) (view l.worker.desk) → FoundNone s b.place (view l.worker.desk) → LookedInVain s x b.place (view l.worker.desk)
+in_vain_near s x b l worker begins not knows through none =
+    let known : l.known ≡ min none.count s.events = knows.2 ∙ ap (λ (n : ℕ). min n s.events) (same_Some knows.0 none.count (sym knows.1 ∙ none.counted)) in
+    let after = through_from (view x.worker.desk) (view b.worker.desk) (view l.worker.desk) b.place l.known (ap (λ (w : Worker). (view w.desk).looked.seen) worker) through in record {
+      uncounted = not;
+      misses = b.misses;
+      begins = begins;
+      count = none.count;
+      counted = none.counted;
+      through = subst (λ (n : ℕ). LookedThrough b.place n (view x.worker.desk) (view l.worker.desk)) known after;
+      unready = λ i above low. none.unready i above (omega (arith, low));
+    }
+
+-- a look behind one in vain, which leaves the worker alone where that one began at the first number, found a firing: so it did not
+pub behind : (from : ℕ) (v w : Worker) → (from ≡ 0 → w ≡ v) → v.task ≡ None → w.task ≢ None → 0 < from
+behind zero v w stays none some = absurd (some (ap (λ (u : Worker). u.task) (stays refl) ∙ none))
+behind (suc n) v w stays none some = omega arith
+
+-- or it found none
+pub looked_again : (s : Space Parcel) (from : ℕ) (l z : Player) → (from ≡ 0 → z.worker ≡ l.worker) → (0 < from → LookedThrough 0 z.known (view l.worker.desk) (view z.worker.desk)) → (0 < from → KnowsCount s z)
+    → LookedAgain s from (view l.worker.desk) (view z.worker.desk)
+looked_again s zero l z stays through knows = inl (refl, ap (λ (w : Worker). (view w.desk).looked.seen) (stays refl))
+looked_again s (suc n) l z stays through knows =
+    let count = knows (omega arith) in
+    inr (omega arith, (count.0, count.1, subst (λ (n : ℕ). LookedThrough 0 n (view l.worker.desk) (view z.worker.desk)) count.2 (through (omega arith))))
+
+-- a player that did not count, read that nobody is at work, looked in vain and then looked from the first number on, and found a firing: it was l before that look, and z after it
+pub found_far : (knows : ℕ → Type 0) (s : Space Parcel) (near : ℕ) (x l z y : Player) → LookedInVain s x near (view l.worker.desk) → 0 < near
+    → LookedThrough 0 (z.place + 1) (view l.worker.desk) (view z.worker.desk) → x.worker.task ≡ None → (view l.worker.desk).kept ≡ (view x.worker.desk).kept
     → PlaysFiring knows (view l.worker.desk).kept l.worker.task z.worker z.place → AreUnready 0 z.place (view z.worker.desk).looked.seen → last_read y.card ≡ Some 0
-    → y.worker ≡ z.worker → y.place ≡ z.place → y.misses ≡ 0 → counts x.card ≡ false → HasFound knows x y
-found_far knows s x b l z y worker begins count first through none kept plays before read same_worker same_place missed not = record {
+    → y.worker ≡ z.worker → y.place ≡ z.place → y.misses ≡ 0 → HasFound knows s x y
+found_far knows s near x l z y vain after through none kept plays before read same_worker same_place missed = record {
   from = 0;
-  begins = inr (refl, read);
   onward = omega arith;
   before = rw (same_worker, same_place) before;
-  through = (
-    view l.worker.desk,
-    inr (b.place, b.misses, l.known, count.0, begins, through_from (view x.worker.desk) (view b.worker.desk) (view l.worker.desk) b.place l.known (ap (λ (w : Worker). (view w.desk).looked.seen) worker) first, count.1, (let known = count.2 in omega (arith, known)), read),
-    rw (same_worker, same_place) through,
-  );
+  through = (view l.worker.desk, inr (refl, read, near, after, vain), rw (same_worker, same_place) through);
   fresh = λ not unread. absurd (unread read);
-  plays = rw (same_worker, same_place) (plays_since knows x.worker l.worker z.worker z.place none (kept ∙ ap (λ (w : Worker). (view w.desk).kept) worker) plays);
+  plays = rw (same_worker, same_place) (plays_since knows x.worker l.worker z.worker z.place none kept plays);
   misses = missed;
-  throughout = λ yes. let z : true ≡ false = sym yes ∙ not in absurd (cc);
+  throughout = λ yes. let z : true ≡ false = sym yes ∙ vain.uncounted in absurd (cc);
 }
 
 -- a player that looked and found none, where b is the player as it began to look, and l as it was after it
@@ -361,16 +384,31 @@ found_none s x b l y all worker known begins as_counted none kept through next u
   knows_count = (count.0, rw same_worker count.1, same_known ∙ count.2);
 }
 
+-- a look in vain of a player with another card, which counted where this one does
+in_vain_by : (s : Space Parcel) (x : Player) (k : Card) (from : ℕ) (v : View) → counts k ≡ counts x.card → LookedInVain s (record x { card = k }) from v → LookedInVain s x from v
+in_vain_by s x k from v same was = record {
+  uncounted = sym same ∙ was.uncounted;
+  misses = was.misses;
+  begins = record { near = was.begins.near; far = was.begins.far };
+  count = was.count;
+  counted = was.counted;
+  through = was.through;
+  unready = was.unready;
+}
+
+-- and then it went
+pub gone_by : (s : Space Parcel) (x y : Player) (k : Card) → counts k ≡ counts x.card → reads k ≡ reads x.card → HasGone s (record x { card = k }) y → HasGone s x y
+gone_by s x y k same as_often = ⊎_elim (λ spent. inl spent) (λ far. inr (far.0 ∙ ap (λ (n : ℕ). n + 1) as_often, far.1, far.2, far.3, in_vain_by s x k far.2 far.3 same far.4, far.5))
+
 -- a look of a player with another card, which counted where this one does, and was counted off as often
 pub looked_by : (knows : ℕ → Type 0) (s : Space Parcel) (x y : Player) (k : Card) → counts k ≡ counts x.card → ended k ≡ ended x.card → HasLooked knows s (record x { card = k }) y → HasLooked knows s x y
 looked_by knows s x y k same as_often (inl found) = inl (record {
   from = found.from;
-  begins = ⊎_elim (λ near. inl (near.0, record { near = near.1.near; far = near.1.far })) (λ read. inr read) found.begins;
   onward = found.onward;
   before = found.before;
   through = (
     found.through.0,
-    ⊎_elim (λ none. inl none) (λ far. inr (far.0, far.1, far.2, far.3, record { near = far.4.near; far = far.4.far }, far.5, far.6, far.7, far.8)) found.through.1,
+    ⊎_elim (λ near. inl (near.0, record { near = near.1.near; far = near.1.far }, near.2)) (λ far. inr (far.0, far.1, far.2, far.3, in_vain_by s x k far.2 found.through.0 same far.4)) found.through.1,
     found.through.2,
   );
   fresh = λ not. found.fresh (same ∙ not);

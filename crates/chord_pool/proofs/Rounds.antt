@@ -1,15 +1,15 @@
 -- Rounds of a player, one after the other, and turns of the first worker alone.
-use Rattle.std.proofs.Common.{◌≡◌, ℕ, List, [], ◌∷◌, ◌++◌, true, refl, sym, ap, ◌∙◌, subst, ⊎_elim, inl, inr}
+use Rattle.std.proofs.Common.{◌≡◌, ℕ, List, [], ◌∷◌, ◌++◌, true, false, refl, sym, ap, ◌∙◌, subst, ⊎_elim, inl, inr}
 use Rattle.chord_roll.specs.declared.card.Card.{Card}
-use Rattle.chord_roll.specs.Cards.{last_read, IsSameCard}
+use Rattle.chord_roll.specs.Cards.{last_read, reads, tells, IsSameCard}
 use Rattle.chord_space.specs.declared.space.Space.{Space}
 use Rattle.chord_space.specs.Desks.{view}
 use Rattle.chord_task.specs.declared.parcel.Opened.{Opened as Parcel}
 use Rattle.chord_worker.specs.declared.worker.Worker.{Worker}
 use Rattle.chord_worker.specs.Resting.{IsSameRole}
-use Rattle.chord_worker.specs.Stepping.{StillPlays}
+use Rattle.chord_worker.specs.Stepping.{DrewAStep, StillPlays}
 use Rattle.chord_pool.specs.declared.player.Player.{Player}
-use Rattle.chord_pool.specs.Players.{HadARound, StandsStill, CountsAsBefore, began, IsBetweenRounds, AreRounds, HadRounds, HasLeftOff, HaveAllLeftOff, FoundNone, IsSettled, HasStopped, HasPlayed, MayPlay, PlaysOn, CountsIfItPlays}
+use Rattle.chord_pool.specs.Players.{HadARound, StandsStill, CountsAsBefore, began, IsBetweenRounds, AreRounds, HadRounds, LookedAgain, HasLeftOff, HaveAllLeftOff, FoundNone, IsSettled, HasStopped, HasPlayed, MayPlay, PlaysOn, CountsIfItPlays}
 use Rattle.chord_pool.specs.declared.ending.Alone.{Alone}
 use Rattle.chord_pool.proofs.Looking.{began_none, began_on}
 use Rattle.chord_pool.specs.Ending.{HadATurn, AreTurns, HadTurns, HasLeftOffAlone}
@@ -69,13 +69,20 @@ pub plays_on_between : (x y z : Player) → PlaysOn x y → IsBetweenRounds y z 
 plays_on_between x y z on same failed card =
     ((card.0 ∙ on.0.0, card.1 ∙ on.0.1), λ sane. subst (λ (w : Worker). IsSameRole (view x.worker.desk) (view w.desk)) (sym same.worker) (on.1 (sym failed ∙ sane)))
 
--- a player that leaves off is where it was, if it has not failed
-pub left_off_there : (knows : ℕ → Type 0) (s : Space Parcel) (x y : Player) → HadRounds knows s x y → HasLeftOff knows s x y
-left_off_there knows s x y had = record { last = y; had = had; off = λ sane. (refl, refl); began_so = (λ sane. began_none (view y.worker.desk) y.card, λ lost. refl) }
+-- a player that failed leaves off where it was
+pub left_off_there : (knows : ℕ → Type 0) (s : Space Parcel) (x y : Player) → HadRounds knows s x y → y.failed ≡ true → HasLeftOff knows s x y
+left_off_there knows s x y had lost = record {
+  last = y;
+  had = had;
+  off = λ sane. (refl, refl);
+  began_so = (λ sane. began_none (view y.worker.desk) y.card, λ lost. refl);
+  short = λ lost. inl refl;
+  gone = λ sane. let z : true ≡ false = sym lost ∙ sane in absurd (cc);
+}
 
 -- rounds, and then more of them, after which the player left off and went
-pub left_off_later : (knows : ℕ → Type 0) (s : Space Parcel) (x y z w : Player) → HadRounds knows s x y → HasLeftOff knows s y z → w.worker ≡ z.worker → w.failed ≡ z.failed → began w.card ≡ began z.card → HasLeftOff knows s x w
-left_off_later knows s x y z w had later same_worker same_end as_often = record {
+pub left_off_later : (knows : ℕ → Type 0) (s : Space Parcel) (x y z w : Player) → HadRounds knows s x y → HasLeftOff knows s y z → w.worker ≡ z.worker → w.failed ≡ z.failed → began w.card ≡ began z.card → tells w.card ≡ tells z.card → last_read w.card ≡ last_read z.card → reads w.card ≡ reads z.card → HasLeftOff knows s x w
+left_off_later knows s x y z w had later same_worker same_end as_often same_told same_read read_as_often = record {
   last = later.last;
   had = more_rounds knows s x y later.last had later.had;
   off = λ sane. subst (λ (v : Worker). StillPlays (view later.last.worker.desk).kept later.last.worker.task v) (sym same_worker) (later.off (sym same_end ∙ sane));
@@ -83,6 +90,14 @@ left_off_later knows s x y z w had later same_worker same_end as_often = record 
     λ sane. began_on (view later.last.worker.desk) (view z.worker.desk) (view w.worker.desk) later.last.card z.card w.card (ap (λ (v : Worker). (view v.desk).looked.seen) same_worker) as_often (later.began_so.0 (sym same_end ∙ sane)),
     λ lost. as_often ∙ later.began_so.1 (sym same_end ∙ lost),
   );
+  short = λ lost. ⊎_elim
+      (λ alone. inl (same_worker ∙ alone))
+      (λ told. inr (told.0, same_told ∙ told.1, told.2, told.3, subst (λ (v : Worker). DrewAStep told.2 (view later.last.worker.desk).draws (view v.desk).draws) (sym same_worker) told.4))
+      (later.short (sym same_end ∙ lost));
+  gone = λ sane. ⊎_elim
+      (λ spent. inl (subst (λ (v : Worker). (view v.desk).spent ≡ true) (sym same_worker) spent.0, same_worker ∙ spent.1))
+      (λ far. inr (read_as_often ∙ far.0, same_read ∙ far.1, far.2, far.3, far.4, subst (λ (v : Worker). LookedAgain s far.2 far.3 (view v.desk)) (sym same_worker) far.5))
+      (later.gone (sym same_end ∙ sane));
 }
 
 -- a player that goes has played what it had played

@@ -1,5 +1,5 @@
 -- When the first worker may close the table.
-use Rattle.std.specs.Prelude.{◌≡◌, ◌<◌, ◌≤◌, ◌⊎◌, ◌+◌, ℕ, true, false, List, [], ◌∷◌, ◌++◌, Some, None, min}
+use Rattle.std.specs.Prelude.{◌≡◌, ◌<◌, ◌≤◌, ◌⊎◌, ◌+◌, ℕ, true, false, ◌-◌, List, [], ◌∷◌, ◌++◌, length, Some, None, min}
 use Rattle.chord_rule.specs.declared.view.Look.{Look}
 use Rattle.chord_rule.specs.declared.view.View.{View}
 use Rattle.chord_rule.specs.Closing.{IsAsleep, MayClose}
@@ -13,7 +13,7 @@ use Rattle.chord_worker.specs.declared.worker.Worker.{Worker}
 use Rattle.chord_worker.specs.Resting.{IsAtRest}
 use Rattle.chord_worker.specs.Stepping.{DrewAStep, HasGoneOn, PlaysNext, PlaysFiring, StillPlays}
 use Rattle.chord_pool.specs.declared.ending.Alone.{Alone}
-use Rattle.chord_pool.specs.Players.{AreAmong, IsSettled, IsUnready, LookedThrough}
+use Rattle.chord_pool.specs.Players.{count_ready, AreAmong, IsSettled, IsUnready, LookedAtAll, LookedAtNone, LookedThrough}
 
 -- each cell from `from` up to below `below` was looked at, and was last neither woken nor ready
 abbrev pub AreAwake : (from below : ℕ) → List Look → Type 0
@@ -24,7 +24,7 @@ abbrev pub SawAsleep : ℕ → List Look → Type 0
 SawAsleep i [] = ⊥
 SawAsleep i (l ∷ ls) = ((i ≡ l.number) × IsAsleep l.word.cell) ⊎ SawAsleep i ls
 
--- between these views the desk looked at cells from `from` up to `to` and at no other ones, and saw `to` asleep, and each cell before it was last neither woken nor ready
+-- between these views the desk looked at cells from `from` up to `to` and at no other ones, and saw `to` asleep, and each cell before it was last neither woken nor ready: as many looks as these are read no firing ready, and at most as many more read one that was
 pub record HasComeTo (from to : ℕ) (v w : View) : Type 0 where
   pub onward : from ≤ to
   pub looks : List Look
@@ -32,6 +32,8 @@ pub record HasComeTo (from to : ℕ) (v w : View) : Type 0 where
   pub among : AreAmong from (to + 1) looks
   pub asleep : SawAsleep to looks
   pub before : AreAwake from to w.looked.seen
+  pub in_vain : length looks ≡ ((to + 1) - from) + count_ready looks
+  pub ready : count_ready looks ≤ (to + 1) - from
 
 -- the worker, which had no task, plays the firing i, of which the gate knows, or has none and keeps what it kept, and last saw no firing ready in the cell i
 abbrev pub IsStirred : (ℕ → Type 0) → ℕ → Worker → Worker → Type 0
@@ -73,14 +75,10 @@ pub record HadTurns (knows : ℕ → Type 0) (s : Space Parcel) (x y : Alone) : 
 abbrev pub SawLimit : ℕ → View → Type 0
 SawLimit n v = (c : ℕ) × (v.looked.count ≡ Some c) × (min c n ≡ n)
 
--- between these views the desk looked at the numbers that the counter said were given, from the first on, and at no other ones
-abbrev pub LookedAtAll : Space Parcel → View → View → Type 0
-LookedAtAll s v w = (count : ℕ) × (w.looked.count ≡ Some count) × LookedThrough 0 (min count (events s)) v w
-
--- the first worker, alone, found that the run is over: it plays what it played and keeps what it kept, and was told that the limit is reached, or saw it, or looked at all numbers from the first on
+-- the first worker, alone, found that the run is over: it plays what it played and keeps what it kept, and was told that the limit is reached, or saw it, and looked at no cell, or it looked at all numbers from the first on
 pub record FoundRunOver (s : Space Parcel) (v w : Worker) : Type 0 where
   pub still : StillPlays (view v.desk).kept v.task w
-  pub why : ((view w.desk).spent ≡ true) ⊎ (SawLimit (events s) (view w.desk) ⊎ LookedAtAll s (view v.desk) (view w.desk))
+  pub why : (((view w.desk).spent ≡ true) × LookedAtNone (view v.desk) (view w.desk)) ⊎ ((SawLimit (events s) (view w.desk) × LookedAtNone (view v.desk) (view w.desk)) ⊎ LookedAtAll s (view v.desk) (view w.desk))
 
 -- the first worker had turns, and then found that the run is over
 pub record HasLeftOffAlone (knows : ℕ → Type 0) (s : Space Parcel) (x : Alone) (w : Worker) : Type 0 where

@@ -8,7 +8,7 @@ use Rattle.chord_rule.specs.declared.view.Look.{Look}
 use Rattle.chord_rule.specs.declared.view.View.{View}
 use Rattle.chord_rule.specs.Ways.{LastSeen}
 use Rattle.chord_roll.specs.declared.card.Card.{Card}
-use Rattle.chord_roll.specs.Cards.{counts, ended, hired, last_read, stops, roll_of, IsFirstCard, IsSameCard}
+use Rattle.chord_roll.specs.Cards.{counts, ended, hired, last_read, reads, stops, tells, roll_of, IsFirstCard, IsSameCard}
 use Rattle.chord_roll.specs.Roll.{counted_as}
 use Rattle.chord_space.specs.declared.space.Space.{Space}
 use Rattle.chord_space.specs.Desks.{view, space_code, space_limits, program_of}
@@ -159,23 +159,36 @@ pub record BeginsLook (x : Player) (from misses : ℕ) : Type 0 where
   pub near : x.misses ≢ 32 → (from ≡ x.place) × (misses ≡ x.misses)
   pub far : x.misses ≡ 32 → (from ≡ 0) × (misses ≡ 0)
 
--- a look of the player began there: where it begins a look, or at the first number where it read that nobody is at work
-abbrev pub BeginsAt : Player → Player → ℕ → Type 0
-BeginsAt x y from = ((misses : ℕ) × BeginsLook x from misses) ⊎ ((from ≡ 0) × (last_read y.card ≡ Some 0))
+-- between these views the desk looked at no cell
+abbrev pub LookedAtNone : View → View → Type 0
+LookedAtNone v w = w.looked.seen ≡ v.looked.seen
 
--- before a look that found a firing the player looked at no cell, or had a look that found none, where it read that nobody is at work: it looked where its look begins, at most up to the numbers that the counter said were given
-abbrev pub LookedBefore : Player → Player → View → Type 0
-LookedBefore x y v =
-    (v.looked.seen ≡ (view x.worker.desk).looked.seen)
-    ⊎ ((from : ℕ) × (misses : ℕ) × (below : ℕ) × (count : ℕ) × BeginsLook x from misses × LookedThrough from below (view x.worker.desk) v × (v.looked.count ≡ Some count) × (below ≤ count) × (last_read y.card ≡ Some 0))
+-- between these views the desk looked at the numbers that the counter said were given, from the first on, and at no other ones
+abbrev pub LookedAtAll : Space Parcel → View → View → Type 0
+LookedAtAll s v w = (count : ℕ) × (w.looked.count ≡ Some count) × LookedThrough 0 (min count s.events) v w
 
--- a player that had no task plays the firing at its place now, of which the gate knows, and whose entry its desk keeps beside all that it kept: each cell from where its look began up to that one was last seen in another state than ready, it looked at these, at that one and at no other ones, one that does not count took none that was drawn since its last look, unless it read that nobody is at work, and one that counts was not counted off
-pub record HasFound (knows : ℕ → Type 0) (x y : Player) : Type 0 where
+-- a player that did not count looked from where its look begins, which is here, up to the numbers that the counter said were given, and at no other ones, and last saw no firing ready among them
+pub record LookedInVain (s : Space Parcel) (x : Player) (from : ℕ) (v : View) : Type 0 where
+  pub uncounted : counts x.card ≡ false
+  pub misses : ℕ
+  pub begins : BeginsLook x from misses
+  pub count : ℕ
+  pub counted : v.looked.count ≡ Some count
+  pub through : LookedThrough from (min count s.events) (view x.worker.desk) v
+  pub unready : AreUnready from (min count s.events) v.looked.seen
+
+-- a look of the player began there with this view: where it begins a look, with no look before it, or at the first number, where it read that nobody is at work and had looked in vain from a later one on
+abbrev pub LooksFrom : Space Parcel → Player → Player → ℕ → View → Type 0
+LooksFrom s x y from v =
+    ((misses : ℕ) × BeginsLook x from misses × LookedAtNone (view x.worker.desk) v)
+    ⊎ ((from ≡ 0) × (last_read y.card ≡ Some 0) × (near : ℕ) × (0 < near) × LookedInVain s x near v)
+
+-- a player that had no task plays the firing at its place now, of which the gate knows, and whose entry its desk keeps beside all that it kept: each cell from where its last look began up to that one was last seen in another state than ready, it looked at these, at that one and at no other ones, one that does not count took none that was drawn since its last look, unless it read that nobody is at work, and one that counts was not counted off
+pub record HasFound (knows : ℕ → Type 0) (s : Space Parcel) (x y : Player) : Type 0 where
   pub from : ℕ
-  pub begins : BeginsAt x y from
   pub onward : from ≤ y.place
   pub before : AreUnready from y.place (view y.worker.desk).looked.seen
-  pub through : (v : View) × LookedBefore x y v × LookedThrough from (y.place + 1) v (view y.worker.desk)
+  pub through : (v : View) × LooksFrom s x y from v × LookedThrough from (y.place + 1) v (view y.worker.desk)
   pub fresh : counts x.card ≡ false → last_read y.card ≢ Some 0 → y.place < x.known
   pub plays : PlaysFiring knows (view x.worker.desk).kept x.worker.task y.worker y.place
   pub misses : y.misses ≡ 0
@@ -199,15 +212,16 @@ pub record HasFoundNone (s : Space Parcel) (x y : Player) : Type 0 where
 
 -- a player that had no task has found a firing to play, or looked from its place on and found none
 abbrev pub HasLooked : (ℕ → Type 0) → Space Parcel → Player → Player → Type 0
-HasLooked knows s x y = HasFound knows x y ⊎ HasFoundNone s x y
+HasLooked knows s x y = HasFound knows s x y ⊎ HasFoundNone s x y
 
--- a player went on with its task and counted all the while, drew entries of the body on top and at most one firing, plays no other task but a body of which the gate knows, and stands where it stood, or it looked for a firing, and if it did not count it began to once for each that it read ready
+-- a player went on with its task and counted all the while, drew entries of the body on top and at most one firing, plays no other task but a body of which the gate knows, and stands where it stood, or it read once how many are at work and looked for a firing, and if it did not count it began to once for each that it read ready
 pub record HadARound (knows : ℕ → Type 0) (s : Space Parcel) (x y : Player) : Type 0 where
   pub went : (t : Task) → x.worker.task ≡ Some t → HasGoneOn (view x.worker.desk).kept t y.worker
   pub plays : (t : Task) → x.worker.task ≡ Some t → PlaysNext knows (view x.worker.desk).kept t y.worker
   pub drew : (t : Task) → x.worker.task ≡ Some t → DrewAStep t (view x.worker.desk).draws (view y.worker.desk).draws
   pub stands : (t : Task) → x.worker.task ≡ Some t → StandsStill x y
   pub counted : (t : Task) → x.worker.task ≡ Some t → (counts x.card ≡ true) × CountsAsBefore x.card y.card
+  pub read : x.worker.task ≡ None → reads y.card ≡ reads x.card + 1
   pub looked : x.worker.task ≡ None → HasLooked knows s x y
   pub began_so : x.worker.task ≡ None → BeganForEach (view x.worker.desk) (view y.worker.desk) x.card y.card
 
@@ -243,12 +257,28 @@ pub record HadRounds (knows : ℕ → Type 0) (s : Space Parcel) (x y : Player) 
 abbrev pub BeganToTheEnd : Player → Player → Type 0
 BeganToTheEnd x y = (y.failed ≡ false → BeganForEach (view x.worker.desk) (view y.worker.desk) x.card y.card) × (y.failed ≡ true → began y.card ≡ began x.card)
 
--- the player had rounds and left off: unless it failed it plays what it played after them, and keeps what it kept; and it began to count no more often than it saw a firing to start
+-- a player that failed left its worker alone, or it had read that nobody told it to stop, had one step of its task, and told all to stop
+abbrev pub HasFailed : Player → Player → Type 0
+HasFailed x y = y.failed ≡ true → (y.worker ≡ x.worker) ⊎ ((stops x.card ≡ false) × (tells y.card ≡ true) × (t : Task) × (x.worker.task ≡ Some t) × DrewAStep t (view x.worker.desk).draws (view y.worker.desk).draws)
+
+-- after a look in vain that began here the desk looked at no cell if it began at the first number, and else at all numbers that are given
+abbrev pub LookedAgain : Space Parcel → ℕ → View → View → Type 0
+LookedAgain s from v w = ((from ≡ 0) × LookedAtNone v w) ⊎ ((0 < from) × LookedAtAll s v w)
+
+-- a player that goes was told that the limit is reached and left its worker alone, or it read once how many are at work, and that nobody is, looked in vain, and looked again where that look left numbers out
+abbrev pub HasGone : Space Parcel → Player → Player → Type 0
+HasGone s x y =
+    (((view y.worker.desk).spent ≡ true) × (y.worker ≡ x.worker))
+    ⊎ ((reads y.card ≡ reads x.card + 1) × (last_read y.card ≡ Some 0) × (near : ℕ) × (v : View) × LookedInVain s x near v × LookedAgain s near v (view y.worker.desk))
+
+-- the player had rounds and left off: it failed and had one step of its task at most, or it plays what it played after them, keeps what it kept and went; and it began to count no more often than it saw a firing to start
 pub record HasLeftOff (knows : ℕ → Type 0) (s : Space Parcel) (x y : Player) : Type 0 where
   pub last : Player
   pub had : HadRounds knows s x last
   pub off : y.failed ≡ false → StillPlays (view last.worker.desk).kept last.worker.task y.worker
   pub began_so : BeganToTheEnd last y
+  pub short : HasFailed last y
+  pub gone : y.failed ≡ false → HasGone s last y
 
 -- each of these players, in this order, had rounds and left off
 abbrev pub HaveAllLeftOff : (ℕ → Type 0) → Space Parcel → List Player → List Player → Type 0

@@ -1,13 +1,13 @@
 //! A worker at its thread: it plays what it has, and looks for more.
 ghost use Rattle.std.specs.Prelude.{◌≡◌, ◌≢◌, ◌<◌, ◌≤◌, ◌+◌, ◌-◌, true, false, if◌then◌else◌, min, None, Some, is_some, IfNone, IfSome};
-ghost use Rattle.chord_roll.specs.Cards.{counts, ended, last_read, stops, HasReadNothing, IsSameCard};
+ghost use Rattle.chord_roll.specs.Cards.{counts, ended, last_read, reads, stops, tells, HasReadNothing, IsSameCard};
 ghost use Rattle.chord_roll.specs.Roll.{counted_as};
 ghost use Rattle.chord_pool.specs.declared.player.Player.{Player as ThePlayer};
 ghost use Rattle.chord_space.specs.Desks.{view};
 ghost use Rattle.chord_task.specs.declared.task.Task.{Task as TheTask};
 ghost use Rattle.chord_worker.specs.Resting.{IsSameRole, LastSawReady};
 ghost use Rattle.chord_worker.specs.Stepping.{DrewAStep, HasGoneOn, PlaysBody, PlaysNext, PlaysFiring, StillPlays};
-ghost use Rattle.chord_pool.specs.Players.{IsOneRun, IsFit, AreUnready, FoundNoneBelow, FoundNone, SawUnready, LookedAmong, LookedOnce, LookedThrough, BeganForEach, BeganToTheEnd, KnowsCount, HasStarted, StandsStill, BeginsLook, HasLooked, HadARound, HadRounds, IsBetweenRounds, HasLeftOff, MayPlay, HasPlayed, PlaysOn, IsOnTheWay, CountsIfItPlays, TellsIfItFails};
+ghost use Rattle.chord_pool.specs.Players.{IsOneRun, IsFit, AreUnready, FoundNoneBelow, FoundNone, SawUnready, LookedAmong, LookedOnce, LookedThrough, BeganForEach, BeganToTheEnd, KnowsCount, HasStarted, StandsStill, BeginsLook, HasLooked, HadARound, HadRounds, IsBetweenRounds, HasFailed, HasGone, HasLeftOff, MayPlay, HasPlayed, PlaysOn, IsOnTheWay, CountsIfItPlays, TellsIfItFails};
 
 use crate::crowd::Crowd;
 use crate::pause::Pause;
@@ -224,6 +224,7 @@ impl Player {
         ensures sane { result ≡ true → self.new.failed ≡ false }
         ensures failed { result ≡ false → self.new.failed ≡ true }
         ensures told { TellsIfItFails self.new }
+        ensures tells { result ≡ false → tells self.new.card ≡ true }
         ensures went { result ≡ true → (t : TheTask) → self.old.worker.task ≡ Some t → HasGoneOn (view self.old.worker.desk).kept t self.new.worker }
         ensures plays { result ≡ true → (t : TheTask) → self.old.worker.task ≡ Some t → PlaysNext G.knows (view self.old.worker.desk).kept t self.new.worker }
         ensures drew { (t : TheTask) → self.old.worker.task ≡ Some t → DrewAStep t (view self.old.worker.desk).draws (view self.new.worker.desk).draws }
@@ -321,6 +322,9 @@ impl Player {
         ensures plays { self.new.worker.task ≢ None → PlaysFiring G.knows (view self.old.worker.desk).kept self.old.worker.task self.new.worker self.new.place }
         ensures before { self.new.worker.task ≢ None → AreUnready 0 self.new.place (view self.new.worker.desk).looked.seen }
         ensures found { self.new.worker.task ≢ None → LookedThrough 0 (self.new.place + 1) (view self.old.worker.desk) (view self.new.worker.desk) }
+        ensures stays { from ≡ 0 → self.new.worker ≡ self.old.worker }
+        ensures through { 0 < from → self.new.worker.task ≡ None → LookedThrough 0 self.new.known (view self.old.worker.desk) (view self.new.worker.desk) }
+        ensures knows { 0 < from → self.new.worker.task ≡ None → KnowsCount run.now.space.now self.new }
     {
         if from > 0 {
             self.place = 0;
@@ -359,6 +363,8 @@ impl Player {
         ensures heard { stops self.new.card ≡ stops self.old.card }
         ensures began { BeganForEach (view self.old.worker.desk) (view self.new.worker.desk) self.old.card self.new.card }
         ensures stays { counts self.old.card ≡ true → result ≡ true }
+        ensures gone { result ≡ false → HasGone run.now.space.now self.old self.new }
+        ensures read { reads self.new.card ≡ reads self.old.card + 1 }
     {
         // Read before the look: what is posted later is posted by a worker that is at work now, or by one of those whose work
         // this look finds.
@@ -394,6 +400,7 @@ impl Player {
         ensures card { HasReadNothing self.old.card self.new.card × (stops self.new.card ≡ stops self.old.card) }
         ensures counts { counts self.new.card ≡ false }
         ensures ended { ended self.new.card ≡ ended self.old.card + counted_as (counts self.old.card) }
+        ensures tells { tells self.new.card ≡ tells self.old.card }
     {
         self.card.end();
         self.card.wake_all();
@@ -421,6 +428,8 @@ impl Player {
         ensures went { result ≡ true → HadARound G.knows run.now.space.now self.old self.new }
         ensures off { result ≡ false → self.new.failed ≡ false → StillPlays (view self.old.worker.desk).kept self.old.worker.task self.new.worker }
         ensures last { result ≡ false → BeganToTheEnd self.old self.new }
+        ensures short { result ≡ false → stops self.old.card ≡ false → HasFailed self.old self.new }
+        ensures gone { result ≡ false → self.new.failed ≡ false → HasGone run.now.space.now self.old self.new }
         ensures asked { result ≡ true → self.old.worker.task ≡ None → stops self.new.card ≡ false }
         ensures heard { result ≡ true → stops self.old.card ≡ false → stops self.new.card ≡ false }
     {

@@ -19,6 +19,10 @@ hired c = c.seat.me.0.hired
 abbrev pub last_read : Card → Option ℕ
 last_read c = c.seat.me.0.read
 
+-- how often its worker read such a number
+abbrev pub reads : Card → ℕ
+reads c = c.seat.me.0.reads
+
 -- whether its worker told all to stop, or read that they are to
 abbrev pub stops : Card → Bool
 stops c = c.seat.me.0.stops
@@ -41,4 +45,4 @@ IsSameCard c d = (roll_of d ≡ roll_of c) × (d.seat.id ≡ c.seat.id)
 
 -- the same card, whose worker has read no number in between
 abbrev pub HasReadNothing : Card → Card → Type 0
-HasReadNothing c d = IsSameCard c d × (last_read d ≡ last_read c)
+HasReadNothing c d = IsSameCard c d × (last_read d ≡ last_read c) × (reads d ≡ reads c)

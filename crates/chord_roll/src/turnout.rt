@@ -10,6 +10,8 @@ pub struct Turnout {
     pub hired: u64,
     /// The number that its worker last read on the roll.
     pub read: Option<u64>,
+    /// How often its worker read such a number.
+    pub reads: u64,
     /// Its worker told all to stop, or read that they are to.
     pub stops: bool,
     /// Its worker told all to stop.

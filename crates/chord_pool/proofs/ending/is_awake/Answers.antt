@@ -5,7 +5,7 @@ use Rattle.chord_rule.specs.Closing.{IsAsleep}
 use Rattle.chord_space.specs.Desks.{view}
 use Rattle.chord_word.specs.declared.cells.Cell.TheVariants as a_cell
 use Rattle.chord_worker.proofs.Resting.{saw_ready}
-use Rattle.chord_pool.proofs.Looking.{plays_since, none_there}
+use Rattle.chord_pool.proofs.Looking.{plays_since, none_there, looked_refused, looked_started}
 use Rattle.chord_pool.proofs.Endings.{come_by_look, come_by_start, unready_by_look, unready_told, woken_unready, task_started}
 use Rattle.chord_pool.proofs.ending.is_awake.Goals as goal
 
@@ -26,8 +26,11 @@ pub returns-in-Ready-clause-come : goal.returns-in-Ready-clause-come
 returns-in-Ready-clause-come g c = λ _.
     let look = c.look.ensures.seen in
     let ready : look.0.cell ≡ a_cell.Ready = sym look.1 ∙ c.in-Ready.is in
-    let again = c.start.ensures.once in
-    come_by_start (view c.args.worker.now.desk) (view c.look.new.self.desk) (view c.start.new.self.desk) c.args.i look.0 again.0 look.2 (subst IsAsleep (sym ready) tt) again.2
+    let u = view c.look.new.self.desk in
+    let w = view c.start.new.self.desk in
+    let once = c.start.ensures.once in
+    let again = looked_started c.start.result u w c.args.i (λ e. let r = c.start.ensures.refused e in looked_refused u w c.args.i r.0 r.1 r.3 r.2) once.0 once.1 once.2 in
+    come_by_start (view c.args.worker.now.desk) u w c.args.i look.0 look.2 ready again
 
 pub returns-in-Ready-clause-started : goal.returns-in-Ready-clause-started
 returns-in-Ready-clause-started g c = λ none.
@@ -48,4 +51,4 @@ pub returns-in-Woken-clause-come : goal.returns-in-Woken-clause-come
 returns-in-Woken-clause-come g c = λ _.
     let look = c.look.ensures.seen in
     let woken : look.0.cell ≡ a_cell.Woken c.in-Woken.field-0 = sym look.1 ∙ c.in-Woken.is in
-    come_by_look (view c.args.worker.now.desk) (view c.look.new.self.desk) c.args.i look.0 look.2 (subst IsAsleep (sym woken) tt)
+    come_by_look (view c.args.worker.now.desk) (view c.look.new.self.desk) c.args.i look.0 look.2 (subst IsAsleep (sym woken) tt) (woken_unready look.0.cell c.in-Woken.field-0 woken)

@@ -1,8 +1,8 @@
 use Rattle.std.proofs.Common.{◌≡◌, ◌∙◌, refl, sym, ap, subst, min, if◌then◌else◌, Bool, true, false, Some, inl, inr, rules, arith}
 use Rattle.std.proofs.lemmas.Bool.{ne_eqb, eq-eqb}
-use Rattle.chord_roll.specs.Cards.{counts, ended, last_read}
+use Rattle.chord_roll.specs.Cards.{counts, ended, last_read, reads}
 use Rattle.chord_pool.specs.Players.{began, LookedThrough}
-use Rattle.chord_pool.proofs.Looking.{none_there, found_first, found_far, found_none, began_as, began_off, began_more, began_since}
+use Rattle.chord_pool.proofs.Looking.{none_there, found_first, found_far, found_none, in_vain_near, behind, looked_again, began_as, began_off, began_more, began_since}
 use Rattle.chord_pool.proofs.Endings.{task_started}
 use Rattle.chord_space.specs.Desks.{view}
 use Rattle.chord_worker.specs.declared.worker.Worker.{Worker}
@@ -39,7 +39,7 @@ returns-then-has_task-clause-looked g c = λ _.
     let found = c.found.ensures in
     let some = task_started c.look.new.self.worker.task (sym c.has_task.ensures ∙ c.if-has_task.true) in
     let read : last_read c.found.new.self.card ≡ Some c.read-working.result = search rules in
-    inl (found_first g.G.Gate.knows c.args.self.now c.begin_look.new.self c.look.new.self c.found.new.self same.0 same.3 (record { near = begins.near; far = begins.far })
+    inl (found_first g.G.Gate.knows c.args.run.now.space.now c.args.self.now c.begin_look.new.self c.look.new.self c.found.new.self same.0 same.3 (record { near = begins.near; far = begins.far })
     (look.plays some) (look.onward some) (look.before some) (look.found some)
     (λ not unread.
     let counted : c.is_at_work-counted.result ≡ false = c.is_at_work-counted.ensures ∙ ap counts same.1 ∙ c.read-working.ensures.same.2 ∙ not in
@@ -61,11 +61,38 @@ returns-then-working-eq0-clause-looked g c = λ _.
     let all : c.if-counted.look ≡ true = elim c.if-counted.branch [ then-counted w ↦ absurd (cc) | else-counted w ↦ w.look-is ∙ eq-eqb c.read-working.result 0 c.if-working-eq0.true ] in
     let none = none_there c.look.new.self.worker.task (sym c.has_task.ensures ∙ c.if-has_task.false) in
     let some = task_started c.look_far.new.self.worker.task (sym c.has_task-then-working-eq0.ensures ∙ c.if-not-has_task.false) in
-    let read : last_read c.found-then-working-eq0.new.self.card ≡ Some 0 = ap last_read found.same.3 ∙ far.card.1 ∙ look.card.1 ∙ ap last_read same.1 ∙ c.read-working.ensures.read ∙ ap Some c.if-working-eq0.true in
-    inl (found_far g.G.Gate.knows c.args.run.now.space.now c.args.self.now c.begin_look.new.self c.look.new.self c.look_far.new.self c.found-then-working-eq0.new.self same.0
-    (record { near = begins.near; far = begins.far }) (look.knows none) (subst (λ (b : Bool). LookedThrough c.begin_look.new.self.place (if b then c.look.new.self.known else min c.begin_look.new.self.known c.look.new.self.known) (view c.begin_look.new.self.worker.desk) (view c.look.new.self.worker.desk)) all (look.through none)) (far.found some) c.requires.idle (look.kept none)
-    (far.plays some) (far.before some) read found.same.0 found.same.2 found.misses
-    (sym c.read-working.ensures.same.2 ∙ sym (ap counts same.1) ∙ sym c.if-counted-2.ensures))
+    let counted : counts c.args.self.now.card ≡ false = sym c.read-working.ensures.same.2 ∙ sym (ap counts same.1) ∙ sym c.if-counted-2.ensures in
+    let was_read : last_read c.begin_look.new.self.card ≡ Some 0 = ap last_read same.1 ∙ c.read-working.ensures.read ∙ ap Some c.if-working-eq0.true in
+    let read : last_read c.found-then-working-eq0.new.self.card ≡ Some 0 = ap last_read found.same.3 ∙ far.card.1 ∙ look.card.1 ∙ was_read in
+    let vain = in_vain_near c.args.run.now.space.now c.args.self.now c.begin_look.new.self c.look.new.self same.0 (record { near = begins.near; far = begins.far }) counted (look.knows none)
+    (subst (λ (b : Bool). LookedThrough c.begin_look.new.self.place (if b then c.look.new.self.known else min c.begin_look.new.self.known c.look.new.self.known) (view c.begin_look.new.self.worker.desk) (view c.look.new.self.worker.desk)) all (look.through none))
+    (look.all all was_read none) in
+    inl (found_far g.G.Gate.knows c.args.run.now.space.now c.begin_look.new.self.place c.args.self.now c.look.new.self c.look_far.new.self c.found-then-working-eq0.new.self vain
+    (behind c.begin_look.new.self.place c.look.new.self.worker c.look_far.new.self.worker far.stays none some) (far.found some) c.requires.idle (look.kept none ∙ ap (λ (w : Worker). (view w.desk).kept) same.0)
+    (far.plays some) (far.before some) read found.same.0 found.same.2 found.misses)
+
+pub returns-then-not-has_task-clause-gone : goal.returns-then-not-has_task-clause-gone
+returns-then-not-has_task-clause-gone g c = λ _.
+    let same = c.begin_look.ensures.same in
+    let look = c.look.ensures in
+    let far = c.look_far.ensures in
+    let begins = c.begin_look.ensures.begins in
+    let all : c.if-counted.look ≡ true = elim c.if-counted.branch [ then-counted w ↦ absurd (cc) | else-counted w ↦ w.look-is ∙ eq-eqb c.read-working.result 0 c.if-working-eq0.true ] in
+    let none = none_there c.look.new.self.worker.task (sym c.has_task.ensures ∙ c.if-has_task.false) in
+    let still = none_there c.look_far.new.self.worker.task (sym c.has_task-then-working-eq0.ensures ∙ c.if-not-has_task.true) in
+    let counted : counts c.args.self.now.card ≡ false = sym c.read-working.ensures.same.2 ∙ sym (ap counts same.1) ∙ sym c.if-counted-2.ensures in
+    let was_read : last_read c.begin_look.new.self.card ≡ Some 0 = ap last_read same.1 ∙ c.read-working.ensures.read ∙ ap Some c.if-working-eq0.true in
+    let vain = in_vain_near c.args.run.now.space.now c.args.self.now c.begin_look.new.self c.look.new.self same.0 (record { near = begins.near; far = begins.far }) counted (look.knows none)
+    (subst (λ (b : Bool). LookedThrough c.begin_look.new.self.place (if b then c.look.new.self.known else min c.begin_look.new.self.known c.look.new.self.known) (view c.begin_look.new.self.worker.desk) (view c.look.new.self.worker.desk)) all (look.through none))
+    (look.all all was_read none) in
+    inr (
+      far.card.2 ∙ look.card.2 ∙ ap reads same.1 ∙ c.read-working.ensures.reads,
+      far.card.1 ∙ look.card.1 ∙ was_read,
+      c.begin_look.new.self.place,
+      view c.look.new.self.worker.desk,
+      vain,
+      looked_again c.args.run.now.space.now c.begin_look.new.self.place c.look.new.self c.look_far.new.self far.stays (λ more. far.through more still) (λ more. far.knows more still),
+    )
 
 pub returns-then-has_task-clause-began : goal.returns-then-has_task-clause-began
 returns-then-has_task-clause-began g c =

@@ -1,6 +1,7 @@
-use Rattle.std.proofs.Common.{◌≡◌, ◌∙◌, refl, sym, true, false, rules}
+use Rattle.std.proofs.Common.{◌≡◌, ◌∙◌, ◌+◌, ℕ, refl, sym, ap, inl, inr, true, false, rules}
 use Rattle.chord_space.specs.Desks.{view}
-use Rattle.chord_pool.proofs.Looking.{looked_by, began_as, began_from, began_none}
+use Rattle.chord_pool.proofs.Looking.{looked_by, gone_by, began_as, began_from, began_none}
+use Rattle.chord_pool.proofs.Endings.{task_there}
 use Rattle.chord_pool.proofs.player.Player.round.Goals as goal
 
 pub returns-clause-went : goal.returns-clause-went
@@ -11,6 +12,7 @@ returns-clause-went g c = λ more.
       drew = search rules;
       stands = search rules;
       counted = search rules;
+      read = λ none. c.idle.ensures.read ∙ ap (λ (n : ℕ). n + 1) c.has_stopped.ensures.same.0.2;
       looked = λ none. looked_by g.G.Gate.knows c.args.run.now.space.now c.args.self.now c.idle.new.self c.has_stopped.new.self c.has_stopped.ensures.same.2 c.has_stopped.ensures.ended (c.idle.ensures.looked more);
       began_so = λ none.
           let before = view c.args.self.now.worker.desk in
@@ -38,3 +40,29 @@ returns-then-is_spent-clause-last g c = λ _. (λ _. began_none (view c.args.sel
 
 pub returns-then-has_stopped-clause-last : goal.returns-then-has_stopped-clause-last
 returns-then-has_stopped-clause-last g c = λ _. (λ sane. let z : true ≡ false = sane in absurd (cc), λ _. began_as c.args.self.now.card c.has_stopped.new.self c.has_stopped.ensures.same.2 c.has_stopped.ensures.ended)
+
+pub returns-clause-short : goal.returns-clause-short
+returns-clause-short g c = λ _ told lost. let z : true ≡ false = sym lost ∙ c.idle.ensures.sane in absurd (cc)
+
+pub returns-then-has_task-clause-short : goal.returns-then-has_task-clause-short
+returns-then-has_task-clause-short g c = λ e told lost.
+    let task = task_there c.args.self.now.worker.task (sym c.has_task.ensures ∙ c.if-has_task.true) in
+    inr (told, c.advance.ensures.tells e, task.0, task.1, c.advance.ensures.drew task.0 task.1)
+
+pub returns-then-is_spent-clause-short : goal.returns-then-is_spent-clause-short
+returns-then-is_spent-clause-short g c = λ _ told lost. inl refl
+
+pub returns-then-has_stopped-clause-short : goal.returns-then-has_stopped-clause-short
+returns-then-has_stopped-clause-short g c = λ _ told lost. inl refl
+
+pub returns-clause-gone : goal.returns-clause-gone
+returns-clause-gone g c = λ e sane. gone_by c.args.run.now.space.now c.args.self.now c.idle.new.self c.has_stopped.new.self c.has_stopped.ensures.same.2 c.has_stopped.ensures.same.0.2 (c.idle.ensures.gone e)
+
+pub returns-then-has_task-clause-gone : goal.returns-then-has_task-clause-gone
+returns-then-has_task-clause-gone g c = λ e sane. let z : true ≡ false = sym (c.advance.ensures.failed e) ∙ sane in absurd (cc)
+
+pub returns-then-is_spent-clause-gone : goal.returns-then-is_spent-clause-gone
+returns-then-is_spent-clause-gone g c = λ _ sane. let rest = c.requires.may c.requires.sane in inl (sym rest.rest.told ∙ sym c.is_spent.ensures ∙ c.if-is_spent.true, refl)
+
+pub returns-then-has_stopped-clause-gone : goal.returns-then-has_stopped-clause-gone
+returns-then-has_stopped-clause-gone g c = λ _ sane. let z : true ≡ false = sane in absurd (cc)

@@ -26,7 +26,7 @@ pub returns-clause-had : goal.returns-clause-had
 returns-clause-had g c = λ _. c.loop-round.invariant.6
 
 pub returns-then-not-round-clause-off : goal.returns-then-not-round-clause-off
-returns-then-not-round-clause-off g c = λ _. record { last = c.loop-round.self; had = c.loop-round.invariant.6; off = c.if-not-round.ensures.off refl; began_so = c.if-not-round.ensures.last refl }
+returns-then-not-round-clause-off g c = λ _. record { last = c.loop-round.self; had = c.loop-round.invariant.6; off = c.if-not-round.ensures.off refl; began_so = c.if-not-round.ensures.last refl; short = c.if-not-round.ensures.short refl c.loop-round.invariant.4; gone = c.if-not-round.ensures.gone refl }
 
 pub returns-then-self-clause-off : goal.returns-then-self-clause-off
-returns-then-self-clause-off g c = λ _. left_off_there g.G.Gate.knows c.args.run.now.space.now c.args.self.now _ (no_rounds g.G.Gate.knows c.args.run.now.space.now c.args.self.now _ (record { worker = refl; stands = record { place = refl; known = refl; misses = refl }; counted = record { same = search rules; throughout = search rules } }))
+returns-then-self-clause-off g c = λ _. left_off_there g.G.Gate.knows c.args.run.now.space.now c.args.self.now _ (no_rounds g.G.Gate.knows c.args.run.now.space.now c.args.self.now _ (record { worker = refl; stands = record { place = refl; known = refl; misses = refl }; counted = record { same = search rules; throughout = search rules } })) c.if-self.true
