@@ -431,7 +431,6 @@ impl Player {
         ensures short { result ≡ false → HasFailed self.old self.new }
         ensures gone { result ≡ false → self.new.failed ≡ false → HasGone run.now.space.now self.old self.new }
         ensures asked { result ≡ true → stops self.new.card ≡ false }
-        ensures before { result ≡ true → stops self.old.card ≡ false }
     {
         if self.card.has_stopped() {
             self.failed = true;

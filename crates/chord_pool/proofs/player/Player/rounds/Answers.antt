@@ -15,7 +15,7 @@ loop-round-preserved g c =
       now.sane refl,
       now.counts refl,
       (λ _. now.asked refl),
-      (λ _. (c.loop-round.self, record { on = was.1; sane = was.2; settled = was.0 was.2; counts_so = was.3; told_nothing = now.before refl }, now.went refl)),
+      (λ _. (c.loop-round.self, record { on = was.1; sane = was.2; settled = was.0 was.2; counts_so = was.3; told_nothing = (now.went refl).told_nothing }, now.went refl)),
       one_round_more g.G.Gate.knows c.args.run.now.space.now c.args.self.now c.loop-round.self c.round.new.self was.6 (now.went refl),
     )
 
