@@ -1,5 +1,5 @@
 -- Rounds of a player, one after the other, and turns of the first worker alone.
-use Rattle.std.proofs.Common.{◌≡◌, ℕ, List, [], ◌∷◌, ◌++◌, true, false, refl, sym, ap, ◌∙◌, subst, ⊎_elim, inl, inr}
+use Rattle.std.proofs.Common.{◌≡◌, ℕ, List, [], ◌∷◌, ◌++◌, true, refl, sym, ap, ◌∙◌, subst, ⊎_elim, inl, inr}
 use Rattle.chord_roll.specs.declared.card.Card.{Card}
 use Rattle.chord_roll.specs.Cards.{last_read, reads, tells, IsSameCard}
 use Rattle.chord_space.specs.declared.space.Space.{Space}
@@ -11,7 +11,7 @@ use Rattle.chord_worker.specs.Stepping.{DrewAStep, StillPlays}
 use Rattle.chord_pool.specs.declared.player.Player.{Player}
 use Rattle.chord_pool.specs.Players.{HadARound, StandsStill, CountsAsBefore, began, IsBetweenRounds, AreRounds, HadRounds, LookedAgain, HasLeftOff, HaveAllLeftOff, FoundNone, IsSettled, HasStopped, HasPlayed, MayPlay, PlaysOn, CountsIfItPlays}
 use Rattle.chord_pool.specs.declared.ending.Alone.{Alone}
-use Rattle.chord_pool.proofs.Looking.{began_none, began_on}
+use Rattle.chord_pool.proofs.Looking.{began_on}
 use Rattle.chord_pool.specs.Ending.{HadATurn, AreTurns, HadTurns, HasLeftOffAlone}
 
 -- a player stands where it stood, twice
@@ -68,17 +68,6 @@ counts_between y z same so = λ has. same.counted.same ∙ so (λ none. has (ap 
 pub plays_on_between : (x y z : Player) → PlaysOn x y → IsBetweenRounds y z → z.failed ≡ y.failed → IsSameCard y.card z.card → PlaysOn x z
 plays_on_between x y z on same failed card =
     ((card.0 ∙ on.0.0, card.1 ∙ on.0.1), λ sane. subst (λ (w : Worker). IsSameRole (view x.worker.desk) (view w.desk)) (sym same.worker) (on.1 (sym failed ∙ sane)))
-
--- a player that failed leaves off where it was
-pub left_off_there : (knows : ℕ → Type 0) (s : Space Parcel) (x y : Player) → HadRounds knows s x y → y.failed ≡ true → HasLeftOff knows s x y
-left_off_there knows s x y had lost = record {
-  last = y;
-  had = had;
-  off = λ sane. (refl, refl);
-  began_so = (λ sane. began_none (view y.worker.desk) y.card, λ lost. refl);
-  short = λ lost. inl refl;
-  gone = λ sane. let z : true ≡ false = sym lost ∙ sane in absurd (cc);
-}
 
 -- rounds, and then more of them, after which the player left off and went
 pub left_off_later : (knows : ℕ → Type 0) (s : Space Parcel) (x y z w : Player) → HadRounds knows s x y → HasLeftOff knows s y z → w.worker ≡ z.worker → w.failed ≡ z.failed → began w.card ≡ began z.card → tells w.card ≡ tells z.card → last_read w.card ≡ last_read z.card → reads w.card ≡ reads z.card → HasLeftOff knows s x w

@@ -214,8 +214,9 @@ pub record HasFoundNone (s : Space Parcel) (x y : Player) : Type 0 where
 abbrev pub HasLooked : (ℕ → Type 0) → Space Parcel → Player → Player → Type 0
 HasLooked knows s x y = HasFound knows s x y ⊎ HasFoundNone s x y
 
--- a player went on with its task and counted all the while, drew entries of the body on top and at most one firing, plays no other task but a body of which the gate knows, and stands where it stood, or it read once how many are at work and looked for a firing, and if it did not count it began to once for each that it read ready
+-- a player that was told by nobody to stop went on with its task and counted all the while, drew entries of the body on top and at most one firing, plays no other task but a body of which the gate knows, and stands where it stood, or it read once how many are at work and looked for a firing, and if it did not count it began to once for each that it read ready
 pub record HadARound (knows : ℕ → Type 0) (s : Space Parcel) (x y : Player) : Type 0 where
+  pub told_nothing : stops x.card ≡ false
   pub went : (t : Task) → x.worker.task ≡ Some t → HasGoneOn (view x.worker.desk).kept t y.worker
   pub plays : (t : Task) → x.worker.task ≡ Some t → PlaysNext knows (view x.worker.desk).kept t y.worker
   pub drew : (t : Task) → x.worker.task ≡ Some t → DrewAStep t (view x.worker.desk).draws (view y.worker.desk).draws
@@ -287,12 +288,13 @@ HaveAllLeftOff knows s [] (y ∷ ys) = ⊥
 HaveAllLeftOff knows s (x ∷ xs) [] = ⊥
 HaveAllLeftOff knows s (x ∷ xs) (y ∷ ys) = HasLeftOff knows s x y × HaveAllLeftOff knows s xs ys
 
--- a player that was hired may go on, has nothing to play yet and does not count among those at work: it knows of no number, and none of its looks found none
+-- a player that was hired may go on, has nothing to play yet, does not count among those at work and has not read how many do: it knows of no number, and none of its looks found none
 pub record IsHired (s : Space Parcel) (x : Player) : Type 0 where
   pub may : MayPlay s x
   pub task : x.worker.task ≡ None
   pub sane : x.failed ≡ false
   pub uncounted : counts x.card ≡ false
+  pub unread : last_read x.card ≡ None
   pub place : x.place ≡ 0
   pub known : x.known ≡ 0
   pub misses : x.misses ≡ 0

@@ -406,7 +406,7 @@ impl Player {
         self.card.wake_all();
     }
 
-    /// One round: a step of the task, or a look for another. Whether the worker goes on.
+    /// One round: a step of the task, or a look for another. Whether the worker goes on. Before each it asks whether all are to stop.
     fn round<'a, R: Wait, G: Gate>(
         &mut self,
         rt: &R,
@@ -428,19 +428,18 @@ impl Player {
         ensures went { result ≡ true → HadARound G.knows run.now.space.now self.old self.new }
         ensures off { result ≡ false → self.new.failed ≡ false → StillPlays (view self.old.worker.desk).kept self.old.worker.task self.new.worker }
         ensures last { result ≡ false → BeganToTheEnd self.old self.new }
-        ensures short { result ≡ false → stops self.old.card ≡ false → HasFailed self.old self.new }
+        ensures short { result ≡ false → HasFailed self.old self.new }
         ensures gone { result ≡ false → self.new.failed ≡ false → HasGone run.now.space.now self.old self.new }
-        ensures asked { result ≡ true → self.old.worker.task ≡ None → stops self.new.card ≡ false }
-        ensures heard { result ≡ true → stops self.old.card ≡ false → stops self.new.card ≡ false }
+        ensures asked { result ≡ true → stops self.new.card ≡ false }
     {
+        if self.card.has_stopped() {
+            self.failed = true;
+            return false;
+        }
         if self.worker.has_task() {
             return self.advance(rt, alloc, run, gate);
         }
         if self.worker.is_spent() {
-            return false;
-        }
-        if self.card.has_stopped() {
-            self.failed = true;
             return false;
         }
         self.idle(rt, run, gate, pause)
@@ -448,8 +447,7 @@ impl Player {
 
     /// A spell of rounds. Whether the worker goes on.
     ///
-    /// `forever` counts its turns, which takes some dozen instructions each time. Here it counts one for all of these. Whether the others stopped
-    /// is asked once too, where the worker has a task all the while: the word lies beside one that all of them write.
+    /// `forever` counts its turns, which takes some dozen instructions each time. Here it counts one for all of these.
     fn rounds<'a, R: Wait, G: Gate>(
         &mut self,
         rt: &R,
@@ -473,10 +471,6 @@ impl Player {
         ensures off { result ≡ false → HasLeftOff G.knows run.now.space.now self.old self.new }
         ensures asked { result ≡ true → stops self.new.card ≡ false }
     {
-        self.failed = self.card.has_stopped();
-        if self.failed {
-            return false;
-        }
         for _round in 0..ROUNDS {
             if !self.round(rt, alloc, run, gate, pause) {
                 return false;

@@ -1,5 +1,5 @@
 use Rattle.std.proofs.Common.{◌≡◌, ◌+◌, List, length, None, subst, sym, ap, ◌∙◌, refl}
-use Rattle.chord_roll.specs.Cards.{counts, roll_of}
+use Rattle.chord_roll.specs.Cards.{counts, last_read, roll_of}
 use Rattle.chord_space.specs.Desks.{view}
 use Rattle.chord_worker.specs.declared.worker.Worker.{Worker}
 use Rattle.chord_worker.specs.Resting.{IsAtRest}
@@ -17,6 +17,7 @@ returns c =
       task = task;
       sane = made.2;
       uncounted = ap counts made.1 ∙ c.in_ok-card.ensures.other.2;
+      unread = ap last_read made.1 ∙ c.in_ok-card.ensures.other.5;
       place = made.3;
       known = made.4;
       misses = made.5;

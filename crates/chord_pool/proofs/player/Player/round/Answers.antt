@@ -7,6 +7,7 @@ use Rattle.chord_pool.proofs.player.Player.round.Goals as goal
 pub returns-clause-went : goal.returns-clause-went
 returns-clause-went g c = λ more.
     record {
+      told_nothing = (c.has_stopped.ensures.not_yet c.if-has_stopped.false).0;
       went = search rules;
       plays = search rules;
       drew = search rules;
@@ -33,27 +34,32 @@ returns-clause-last g c = λ _.
     )
 
 pub returns-then-has_task-clause-last : goal.returns-then-has_task-clause-last
-returns-then-has_task-clause-last g c = λ e. (λ sane. let z : true ≡ false = sym (c.advance.ensures.failed e) ∙ sane in absurd (cc), λ _. began_as c.args.self.now.card c.advance.new.self.card c.advance.ensures.card c.advance.ensures.ended)
+returns-then-has_task-clause-last g c = λ e. (λ sane. let z : true ≡ false = sym (c.advance.ensures.failed e) ∙ sane in absurd (cc), λ _. began_as c.args.self.now.card c.advance.new.self.card (c.advance.ensures.card ∙ c.has_stopped.ensures.same.2) (c.advance.ensures.ended ∙ c.has_stopped.ensures.ended))
 
 pub returns-then-is_spent-clause-last : goal.returns-then-is_spent-clause-last
-returns-then-is_spent-clause-last g c = λ _. (λ _. began_none (view c.args.self.now.worker.desk) c.args.self.now.card, λ _. refl)
+returns-then-is_spent-clause-last g c = λ _.
+    let desk = view c.args.self.now.worker.desk in
+    let as_often = began_as c.args.self.now.card c.has_stopped.new.self c.has_stopped.ensures.same.2 c.has_stopped.ensures.ended in (
+      λ _. began_from desk desk desk desk c.args.self.now.card c.has_stopped.new.self c.has_stopped.new.self c.has_stopped.new.self refl refl c.has_stopped.ensures.same.2 as_often refl (began_none desk c.has_stopped.new.self),
+      λ _. as_often,
+    )
 
 pub returns-then-has_stopped-clause-last : goal.returns-then-has_stopped-clause-last
 returns-then-has_stopped-clause-last g c = λ _. (λ sane. let z : true ≡ false = sane in absurd (cc), λ _. began_as c.args.self.now.card c.has_stopped.new.self c.has_stopped.ensures.same.2 c.has_stopped.ensures.ended)
 
 pub returns-clause-short : goal.returns-clause-short
-returns-clause-short g c = λ _ told lost. let z : true ≡ false = sym lost ∙ c.idle.ensures.sane in absurd (cc)
+returns-clause-short g c = λ _ lost. let z : true ≡ false = sym lost ∙ c.idle.ensures.sane in absurd (cc)
 
 pub returns-then-has_task-clause-short : goal.returns-then-has_task-clause-short
-returns-then-has_task-clause-short g c = λ e told lost.
+returns-then-has_task-clause-short g c = λ e lost.
     let task = task_there c.args.self.now.worker.task (sym c.has_task.ensures ∙ c.if-has_task.true) in
-    inr (told, c.advance.ensures.tells e, task.0, task.1, c.advance.ensures.drew task.0 task.1)
+    inr ((c.has_stopped.ensures.not_yet c.if-has_stopped.false).0, c.advance.ensures.tells e, task.0, task.1, c.advance.ensures.drew task.0 task.1)
 
 pub returns-then-is_spent-clause-short : goal.returns-then-is_spent-clause-short
-returns-then-is_spent-clause-short g c = λ _ told lost. inl refl
+returns-then-is_spent-clause-short g c = λ _ lost. inl refl
 
 pub returns-then-has_stopped-clause-short : goal.returns-then-has_stopped-clause-short
-returns-then-has_stopped-clause-short g c = λ _ told lost. inl refl
+returns-then-has_stopped-clause-short g c = λ _ lost. inl refl
 
 pub returns-clause-gone : goal.returns-clause-gone
 returns-clause-gone g c = λ e sane. gone_by c.args.run.now.space.now c.args.self.now c.idle.new.self c.has_stopped.new.self c.has_stopped.ensures.same.2 c.has_stopped.ensures.same.0.2 (c.idle.ensures.gone e)
@@ -66,3 +72,18 @@ returns-then-is_spent-clause-gone g c = λ _ sane. let rest = c.requires.may c.r
 
 pub returns-then-has_stopped-clause-gone : goal.returns-then-has_stopped-clause-gone
 returns-then-has_stopped-clause-gone g c = λ _ sane. let z : true ≡ false = sane in absurd (cc)
+
+pub returns-then-has_task-clause-went : goal.returns-then-has_task-clause-went
+returns-then-has_task-clause-went g c = λ more.
+    let still = c.advance.ensures.stands more in
+    record {
+      told_nothing = (c.has_stopped.ensures.not_yet c.if-has_stopped.false).0;
+      went = c.advance.ensures.went more;
+      plays = c.advance.ensures.plays more;
+      drew = c.advance.ensures.drew;
+      stands = λ t at. record { place = still.place; known = still.known; misses = still.misses };
+      counted = λ t at. (c.requires.counts (search rules), record { same = c.advance.ensures.card ∙ c.has_stopped.ensures.same.2; throughout = c.advance.ensures.ended ∙ c.has_stopped.ensures.ended });
+      read = search rules;
+      looked = search rules;
+      began_so = search rules;
+    }
