@@ -26,12 +26,20 @@ use Rattle.chord_worker.specs.declared.worker.Worker.{Worker}
 use Rattle.chord_worker.specs.Resting.{IsSameRole, IsSeen, beside_task}
 use Rattle.chord_pool.specs.declared.ending.Alone.{Alone}
 use Rattle.chord_pool.specs.Players.{AreAmong, IsFit, IsSettled, IsUnready, IsCrew, LookedOnce, LookedThrough}
-use Rattle.chord_pool.specs.Ending.{AreAwake, HasComeTo, IsAloneWorker, IsLast, IsRunOver, IsStirred, SawAsleep, HasLookedAlone}
+use Rattle.chord_pool.specs.Ending.{AreAwake, HasComeTo, IsAloneWorker, IsLast, IsRunOver, IsStirred, SawAsleep, SawLimit, HasLookedAlone}
 use Rattle.chord_pool.proofs.Looking.{last_stays, among_more, plays_since, not_ready, count_ready-append, through_once, through_from}
 
 -- the role of a desk stays over two steps
 pub role_stays : (u v w : View) → IsSameRole u v → IsSameRole v w → IsSameRole u w
 role_stays u v w a b = record { first = b.first ∙ a.first; lent = b.lent ∙ a.lent; splits = b.splits ∙ a.splits; drawn = λ d. b.drawn (a.drawn d) }
+
+-- a number that the counter said is that number
+same_count : (k c : ℕ) → ◌≡◌ {A = Option ℕ} (Some k) (Some c) → k ≡ c
+same_count k c same = cc
+
+-- where fewer numbers than the limit were given, as the counter said last, the limit was not seen
+pub unlimited : (n k count : ℕ) (v : View) → v.looked.count ≡ Some k → count ≡ min k n → count ≢ n → SawLimit n v → ⊥
+unlimited n k count v told is_count below (c, saw, full) = below (is_count ∙ ap (λ (x : ℕ). min x n) (same_count k c (sym told ∙ saw)) ∙ full)
 
 -- one more cell was looked at, and need not be looked after
 pub awake_more : (from i : ℕ) (v w : View) (x : Word) → AreAwake from i v.looked.seen → IsSeen v w i x → (IsAsleep x.cell → ⊥) → AreAwake from (i + 1) w.looked.seen
@@ -60,7 +68,7 @@ come_by_look v w i x look asleep unready = record {
   among = (omega arith, omega arith, tt);
   asleep = inl (refl, asleep);
   before = awake_none i w.looked.seen;
-  in_vain = let none = not_ready x.cell unready in rw none (omega arith);
+  unready_looks = let none = not_ready x.cell unready in rw none (omega arith);
   ready = let none = not_ready x.cell unready in rw none (omega arith);
 }
 
@@ -73,7 +81,7 @@ come_by_start v u w i x look ready again = record {
   among = (omega arith, omega arith, (omega arith, omega arith, tt));
   asleep = inr (inl (refl, subst IsAsleep (sym ready) tt));
   before = awake_none i w.looked.seen;
-  in_vain = rw (not_ready again.word.cell again.unready, ready) (omega arith);
+  unready_looks = rw (not_ready again.word.cell again.unready, ready) (omega arith);
   ready = rw (not_ready again.word.cell again.unready, ready) (omega arith);
 }
 
@@ -90,7 +98,7 @@ come_on from i u v w low awake was come = record {
   among = among_more from i come.looks was.looks low come.among was.among;
   asleep = saw_more i come.looks was.looks come.asleep;
   before = subst (AreAwake from i) (sym come.seen) (awake_stay from i (i + 1) come.looks v.looked.seen come.among awake);
-  in_vain = let long = length-append come.looks was.looks in let ready = count_ready-append come.looks was.looks in let a = come.in_vain in let b = was.in_vain in omega (arith, low, long, ready, a, b);
+  unready_looks = let long = length-append come.looks was.looks in let ready = count_ready-append come.looks was.looks in let a = come.unready_looks in let b = was.unready_looks in omega (arith, low, long, ready, a, b);
   ready = let ready = count_ready-append come.looks was.looks in let a = come.ready in let b = was.ready in omega (arith, low, ready, a, b);
 }
   where
@@ -108,7 +116,7 @@ come_since from to u v w same come = record {
   among = come.among;
   asleep = come.asleep;
   before = come.before;
-  in_vain = come.in_vain;
+  unready_looks = come.unready_looks;
   ready = come.ready;
 }
 

@@ -75,7 +75,7 @@ looked_refused v w i c next told unready = record { word = a_word c next; unread
 
 -- no number was looked at
 pub through_none : (from : ℕ) (v : View) → LookedThrough from from v v
-through_none from v = record { looks = []; seen = refl; among = tt; in_vain = omega arith; ready = omega arith }
+through_none from v = record { looks = []; seen = refl; among = tt; unready_looks = omega arith; ready = omega arith }
 
 -- one look at one number, in which no firing was ready
 pub through_once : (v w : View) (i : ℕ) (x : Word) → x.cell ≢ Ready → w.looked.seen ≡ record { number = i; word = x } ∷ v.looked.seen → LookedThrough i (i + 1) v w
@@ -83,7 +83,7 @@ through_once v w i x unready seen = record {
   looks = record { number = i; word = x } ∷ [];
   seen = seen;
   among = (omega arith, omega arith, tt);
-  in_vain = let none = not_ready x.cell unready in rw none (omega arith);
+  unready_looks = let none = not_ready x.cell unready in rw none (omega arith);
   ready = let none = not_ready x.cell unready in rw none (omega arith);
 }
 
@@ -93,7 +93,7 @@ through_twice v u w i x ready seen again = record {
   looks = record { number = i; word = again.word } ∷ record { number = i; word = x } ∷ [];
   seen = again.seen ∙ ap (λ l. record { number = i; word = again.word } ∷ l) seen;
   among = (omega arith, omega arith, (omega arith, omega arith, tt));
-  in_vain = rw (not_ready again.word.cell again.unready, ready) (omega arith);
+  unready_looks = rw (not_ready again.word.cell again.unready, ready) (omega arith);
   ready = rw (not_ready again.word.cell again.unready, ready) (omega arith);
 }
 
@@ -150,7 +150,7 @@ among_twice u v w i was now = record {
 
 -- numbers were looked at after something that was no look at a cell
 pub through_from : (u v w : View) (from below : ℕ) → v.looked.seen ≡ u.looked.seen → LookedThrough from below v w → LookedThrough from below u w
-through_from u v w from below same was = record { looks = was.looks; seen = was.seen ∙ ap (λ l. was.looks ++ l) same; among = was.among; in_vain = was.in_vain; ready = was.ready }
+through_from u v w from below same was = record { looks = was.looks; seen = was.seen ∙ ap (λ l. was.looks ++ l) same; among = was.among; unready_looks = was.unready_looks; ready = was.ready }
 
 -- nothing was looked at, on the same card
 pub began_none : (v : View) (c : Card) → BeganForEach v v c c
@@ -258,7 +258,7 @@ through_more u v w from i low was one = record {
   looks = one.looks ++ was.looks;
   seen = one.seen ∙ ap (λ l. one.looks ++ l) was.seen ∙ sym (append_assoc one.looks was.looks u.looked.seen);
   among = among_more from i one.looks was.looks low one.among was.among;
-  in_vain = let long = length-append one.looks was.looks in let ready = count_ready-append one.looks was.looks in let a = one.in_vain in let b = was.in_vain in omega (arith, low, long, ready, a, b);
+  unready_looks = let long = length-append one.looks was.looks in let ready = count_ready-append one.looks was.looks in let a = one.unready_looks in let b = was.unready_looks in omega (arith, low, long, ready, a, b);
   ready = let ready = count_ready-append one.looks was.looks in let a = one.ready in let b = was.ready in omega (arith, low, ready, a, b);
 }
 
@@ -268,7 +268,7 @@ through_all v w from i below end within was = record {
   looks = was.looks;
   seen = was.seen;
   among = among_all from i below was.looks within was.among;
-  in_vain = let long = was.in_vain in omega (arith, long, end, within);
+  unready_looks = let long = was.unready_looks in omega (arith, long, end, within);
   ready = let few = was.ready in omega (arith, few, end, within);
 }
 

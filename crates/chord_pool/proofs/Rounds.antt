@@ -6,7 +6,7 @@ use Rattle.chord_space.specs.declared.space.Space.{Space}
 use Rattle.chord_space.specs.Desks.{view}
 use Rattle.chord_task.specs.declared.parcel.Opened.{Opened as Parcel}
 use Rattle.chord_worker.specs.declared.worker.Worker.{Worker}
-use Rattle.chord_worker.specs.Resting.{IsSameRole}
+use Rattle.chord_worker.specs.Resting.{IsSameRole, IsOutOfMemory}
 use Rattle.chord_worker.specs.Stepping.{DrewAStep, StillPlays}
 use Rattle.chord_pool.specs.declared.player.Player.{Player}
 use Rattle.chord_pool.specs.Players.{HadARound, StandsStill, CountsAsBefore, began, IsBetweenRounds, AreRounds, HadRounds, LookedAgain, HasLeftOff, HaveAllLeftOff, FoundNone, IsSettled, HasStopped, HasPlayed, MayPlay, PlaysOn, CountsIfItPlays}
@@ -80,8 +80,8 @@ left_off_later knows s x y z w had later same_worker same_end as_often same_told
     λ lost. as_often ∙ later.began_so.1 (sym same_end ∙ lost),
   );
   short = λ lost. ⊎_elim
-      (λ alone. inl (same_worker ∙ alone))
-      (λ told. inr (told.0, same_told ∙ told.1, told.2, told.3, subst (λ (v : Worker). DrewAStep told.2 (view later.last.worker.desk).draws (view v.desk).draws) (sym same_worker) told.4))
+      (λ alone. inl (same_worker ∙ alone.0, same_told ∙ alone.1))
+      (λ told. inr (told.0, same_told ∙ told.1, subst (IsOutOfMemory s) (sym same_worker) told.2, told.3, told.4, subst (λ (v : Worker). DrewAStep told.3 (view later.last.worker.desk).draws (view v.desk).draws) (sym same_worker) told.5))
       (later.short (sym same_end ∙ lost));
   gone = λ sane. ⊎_elim
       (λ spent. inl (subst (λ (v : Worker). (view v.desk).spent ≡ true) (sym same_worker) spent.0, same_worker ∙ spent.1))

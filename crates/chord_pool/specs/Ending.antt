@@ -32,7 +32,7 @@ pub record HasComeTo (from to : ℕ) (v w : View) : Type 0 where
   pub among : AreAmong from (to + 1) looks
   pub asleep : SawAsleep to looks
   pub before : AreAwake from to w.looked.seen
-  pub in_vain : length looks ≡ ((to + 1) - from) + count_ready looks
+  pub unready_looks : length looks ≡ ((to + 1) - from) + count_ready looks
   pub ready : count_ready looks ≤ (to + 1) - from
 
 -- the worker, which had no task, plays the firing i, of which the gate knows, or has none and keeps what it kept, and last saw no firing ready in the cell i
@@ -75,10 +75,10 @@ pub record HadTurns (knows : ℕ → Type 0) (s : Space Parcel) (x y : Alone) : 
 abbrev pub SawLimit : ℕ → View → Type 0
 SawLimit n v = (c : ℕ) × (v.looked.count ≡ Some c) × (min c n ≡ n)
 
--- the first worker, alone, found that the run is over: it plays what it played and keeps what it kept, and was told that the limit is reached, or saw it, and looked at no cell, or it looked at all numbers from the first on
+-- the first worker, alone, found that the run is over: it plays what it played and keeps what it kept, and was told that the limit is reached, or saw it, and looked at no cell, or saw that it is not and looked at all numbers from the first on
 pub record FoundRunOver (s : Space Parcel) (v w : Worker) : Type 0 where
   pub still : StillPlays (view v.desk).kept v.task w
-  pub why : (((view w.desk).spent ≡ true) × LookedAtNone (view v.desk) (view w.desk)) ⊎ ((SawLimit (events s) (view w.desk) × LookedAtNone (view v.desk) (view w.desk)) ⊎ LookedAtAll s (view v.desk) (view w.desk))
+  pub why : (((view w.desk).spent ≡ true) × LookedAtNone (view v.desk) (view w.desk)) ⊎ ((SawLimit (events s) (view w.desk) × LookedAtNone (view v.desk) (view w.desk)) ⊎ ((SawLimit (events s) (view w.desk) → ⊥) × LookedAtAll s (view v.desk) (view w.desk)))
 
 -- the first worker had turns, and then found that the run is over
 pub record HasLeftOffAlone (knows : ℕ → Type 0) (s : Space Parcel) (x : Alone) (w : Worker) : Type 0 where

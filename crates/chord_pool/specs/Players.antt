@@ -18,7 +18,7 @@ use Rattle.chord_word.specs.declared.cells.Cell.{Cell}
 use Rattle.chord_word.specs.declared.cells.Cell.TheVariants.{Ready}
 use Rattle.chord_word.specs.declared.cells.Word.{Word}
 use Rattle.chord_worker.specs.declared.worker.Worker.{Worker}
-use Rattle.chord_worker.specs.Resting.{IsAtRest, IsSameRole}
+use Rattle.chord_worker.specs.Resting.{IsAtRest, IsOutOfMemory, IsSameRole}
 use Rattle.chord_worker.specs.Stepping.{DrewAStep, HasGoneOn, PlaysNext, PlaysFiring, StillPlays}
 use Rattle.chord_pool.specs.declared.player.Player.{Player}
 
@@ -100,7 +100,7 @@ pub record LookedThrough (from below : ℕ) (v w : View) : Type 0 where
   pub looks : List Look
   pub seen : w.looked.seen ≡ looks ++ v.looked.seen
   pub among : AreAmong from below looks
-  pub in_vain : length looks ≡ (below - from) + count_ready looks
+  pub unready_looks : length looks ≡ (below - from) + count_ready looks
   pub ready : count_ready looks ≤ below - from
 
 -- between these views and cards a worker that did not count began to count once for each look that read a firing ready, and one that counted began no more
@@ -214,7 +214,7 @@ pub record HasFoundNone (s : Space Parcel) (x y : Player) : Type 0 where
 abbrev pub HasLooked : (ℕ → Type 0) → Space Parcel → Player → Player → Type 0
 HasLooked knows s x y = HasFound knows s x y ⊎ HasFoundNone s x y
 
--- a player that was told by nobody to stop went on with its task and counted all the while, drew entries of the body on top and at most one firing, plays no other task but a body of which the gate knows, and stands where it stood, or it read once how many are at work and looked for a firing, and if it did not count it began to once for each that it read ready
+-- a player that was told by nobody to stop went on with its task and counted all the while, without a read of how many do, drew entries of the body on top and at most one firing, plays no other task but a body of which the gate knows, and stands where it stood, or it read once how many are at work and looked for a firing, and if it did not count it began to once for each that it read ready
 pub record HadARound (knows : ℕ → Type 0) (s : Space Parcel) (x y : Player) : Type 0 where
   pub told_nothing : stops x.card ≡ false
   pub went : (t : Task) → x.worker.task ≡ Some t → HasGoneOn (view x.worker.desk).kept t y.worker
@@ -222,6 +222,7 @@ pub record HadARound (knows : ℕ → Type 0) (s : Space Parcel) (x y : Player) 
   pub drew : (t : Task) → x.worker.task ≡ Some t → DrewAStep t (view x.worker.desk).draws (view y.worker.desk).draws
   pub stands : (t : Task) → x.worker.task ≡ Some t → StandsStill x y
   pub counted : (t : Task) → x.worker.task ≡ Some t → (counts x.card ≡ true) × CountsAsBefore x.card y.card
+  pub unread : (t : Task) → x.worker.task ≡ Some t → reads y.card ≡ reads x.card
   pub read : x.worker.task ≡ None → reads y.card ≡ reads x.card + 1
   pub looked : x.worker.task ≡ None → HasLooked knows s x y
   pub began_so : x.worker.task ≡ None → BeganForEach (view x.worker.desk) (view y.worker.desk) x.card y.card
@@ -258,9 +259,9 @@ pub record HadRounds (knows : ℕ → Type 0) (s : Space Parcel) (x y : Player) 
 abbrev pub BeganToTheEnd : Player → Player → Type 0
 BeganToTheEnd x y = (y.failed ≡ false → BeganForEach (view x.worker.desk) (view y.worker.desk) x.card y.card) × (y.failed ≡ true → began y.card ≡ began x.card)
 
--- a player that failed left its worker alone, or it had read that nobody told it to stop, had one step of its task, and told all to stop
-abbrev pub HasFailed : Player → Player → Type 0
-HasFailed x y = y.failed ≡ true → (y.worker ≡ x.worker) ⊎ ((stops x.card ≡ false) × (tells y.card ≡ true) × (t : Task) × (x.worker.task ≡ Some t) × DrewAStep t (view x.worker.desk).draws (view y.worker.desk).draws)
+-- a player that failed left its worker alone and told nobody, or it had read that nobody told it to stop, had one step of its task, ran out of memory, and told all to stop
+abbrev pub HasFailed : Space Parcel → Player → Player → Type 0
+HasFailed s x y = y.failed ≡ true → ((y.worker ≡ x.worker) × (tells y.card ≡ tells x.card)) ⊎ ((stops x.card ≡ false) × (tells y.card ≡ true) × IsOutOfMemory s y.worker × (t : Task) × (x.worker.task ≡ Some t) × DrewAStep t (view x.worker.desk).draws (view y.worker.desk).draws)
 
 -- after a look in vain that began here the desk looked at no cell if it began at the first number, and else at all numbers that are given
 abbrev pub LookedAgain : Space Parcel → ℕ → View → View → Type 0
@@ -278,7 +279,7 @@ pub record HasLeftOff (knows : ℕ → Type 0) (s : Space Parcel) (x y : Player)
   pub had : HadRounds knows s x last
   pub off : y.failed ≡ false → StillPlays (view last.worker.desk).kept last.worker.task y.worker
   pub began_so : BeganToTheEnd last y
-  pub short : HasFailed last y
+  pub short : HasFailed s last y
   pub gone : y.failed ≡ false → HasGone s last y
 
 -- each of these players, in this order, had rounds and left off

@@ -5,7 +5,7 @@ ghost use Rattle.chord_roll.specs.Roll.{counted_as};
 ghost use Rattle.chord_pool.specs.declared.player.Player.{Player as ThePlayer};
 ghost use Rattle.chord_space.specs.Desks.{view};
 ghost use Rattle.chord_task.specs.declared.task.Task.{Task as TheTask};
-ghost use Rattle.chord_worker.specs.Resting.{IsSameRole, LastSawReady};
+ghost use Rattle.chord_worker.specs.Resting.{IsSameRole, IsOutOfMemory, LastSawReady};
 ghost use Rattle.chord_worker.specs.Stepping.{DrewAStep, HasGoneOn, PlaysBody, PlaysNext, PlaysFiring, StillPlays};
 ghost use Rattle.chord_pool.specs.Players.{IsOneRun, IsFit, AreUnready, FoundNoneBelow, FoundNone, SawUnready, LookedAmong, LookedOnce, LookedThrough, BeganForEach, BeganToTheEnd, KnowsCount, HasStarted, StandsStill, BeginsLook, HasLooked, HadARound, HadRounds, IsBetweenRounds, HasFailed, HasGone, HasLeftOff, MayPlay, HasPlayed, PlaysOn, IsOnTheWay, CountsIfItPlays, TellsIfItFails};
 
@@ -225,6 +225,8 @@ impl Player {
         ensures failed { result ≡ false → self.new.failed ≡ true }
         ensures told { TellsIfItFails self.new }
         ensures tells { result ≡ false → tells self.new.card ≡ true }
+        ensures short { result ≡ false → IsOutOfMemory run.now.space.now self.new.worker }
+        ensures reads { reads self.new.card ≡ reads self.old.card }
         ensures went { result ≡ true → (t : TheTask) → self.old.worker.task ≡ Some t → HasGoneOn (view self.old.worker.desk).kept t self.new.worker }
         ensures plays { result ≡ true → (t : TheTask) → self.old.worker.task ≡ Some t → PlaysNext G.knows (view self.old.worker.desk).kept t self.new.worker }
         ensures drew { (t : TheTask) → self.old.worker.task ≡ Some t → DrewAStep t (view self.old.worker.desk).draws (view self.new.worker.desk).draws }
@@ -406,7 +408,7 @@ impl Player {
         self.card.wake_all();
     }
 
-    /// One round: a step of the task, or a look for another. Whether the worker goes on. Before each it asks whether all are to stop.
+    /// One round: a step of the task, or a look for another. Whether the worker goes on. It asks first whether all are to stop.
     fn round<'a, R: Wait, G: Gate>(
         &mut self,
         rt: &R,
@@ -428,7 +430,7 @@ impl Player {
         ensures went { result ≡ true → HadARound G.knows run.now.space.now self.old self.new }
         ensures off { result ≡ false → self.new.failed ≡ false → StillPlays (view self.old.worker.desk).kept self.old.worker.task self.new.worker }
         ensures last { result ≡ false → BeganToTheEnd self.old self.new }
-        ensures short { result ≡ false → HasFailed self.old self.new }
+        ensures short { result ≡ false → HasFailed run.now.space.now self.old self.new }
         ensures gone { result ≡ false → self.new.failed ≡ false → HasGone run.now.space.now self.old self.new }
         ensures asked { result ≡ true → stops self.new.card ≡ false }
     {

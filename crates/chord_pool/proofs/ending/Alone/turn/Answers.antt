@@ -3,7 +3,7 @@ use Rattle.chord_rule.specs.declared.view.View.{View}
 use Rattle.chord_space.specs.Desks.{view, events}
 use Rattle.chord_pool.specs.Players.{LookedThrough}
 use Rattle.chord_pool.proofs.Looking.{through_from}
-use Rattle.chord_pool.proofs.Endings.{looked_since}
+use Rattle.chord_pool.proofs.Endings.{looked_since, unlimited}
 use Rattle.chord_pool.proofs.ending.Alone.turn.Goals as goal
 
 pub returns-clause-went : goal.returns-clause-went
@@ -24,11 +24,15 @@ returns-clause-off g c = λ over.
     let u = view c.count-count.new.self.desk in
     let w = view c.look.new.self.worker.desk in
     let count = c.count-count.ensures.counted in
+    let told = c.look.ensures.count over ∙ ap (λ (x : View). x.looked.count) count.2 in
     record {
       still = search rules;
       why = inr (inr (
-        count.0,
-        c.look.ensures.count over ∙ ap (λ (x : View). x.looked.count) count.2,
-        through_from v u w 0 (min count.0 (events s)) (ap (λ (x : View). x.looked.seen) count.2) (subst (λ (n : ℕ). LookedThrough 0 n u w) count.1 (c.look.ensures.through over)),
+        unlimited (events s) count.0 c.count-count.result w told count.1 (search rules),
+        (
+          count.0,
+          told,
+          through_from v u w 0 (min count.0 (events s)) (ap (λ (x : View). x.looked.seen) count.2) (subst (λ (n : ℕ). LookedThrough 0 n u w) count.1 (c.look.ensures.through over)),
+        ),
       ));
     }

@@ -13,6 +13,7 @@ returns-clause-went g c = λ more.
       drew = search rules;
       stands = search rules;
       counted = search rules;
+      unread = search rules;
       read = λ none. c.idle.ensures.read ∙ ap (λ (n : ℕ). n + 1) c.has_stopped.ensures.same.0.2;
       looked = λ none. looked_by g.G.Gate.knows c.args.run.now.space.now c.args.self.now c.idle.new.self c.has_stopped.new.self c.has_stopped.ensures.same.2 c.has_stopped.ensures.ended (c.idle.ensures.looked more);
       began_so = λ none.
@@ -53,13 +54,13 @@ returns-clause-short g c = λ _ lost. let z : true ≡ false = sym lost ∙ c.id
 pub returns-then-has_task-clause-short : goal.returns-then-has_task-clause-short
 returns-then-has_task-clause-short g c = λ e lost.
     let task = task_there c.args.self.now.worker.task (sym c.has_task.ensures ∙ c.if-has_task.true) in
-    inr ((c.has_stopped.ensures.not_yet c.if-has_stopped.false).0, c.advance.ensures.tells e, task.0, task.1, c.advance.ensures.drew task.0 task.1)
+    inr ((c.has_stopped.ensures.not_yet c.if-has_stopped.false).0, c.advance.ensures.tells e, c.advance.ensures.short e, task.0, task.1, c.advance.ensures.drew task.0 task.1)
 
 pub returns-then-is_spent-clause-short : goal.returns-then-is_spent-clause-short
-returns-then-is_spent-clause-short g c = λ _ lost. inl refl
+returns-then-is_spent-clause-short g c = λ _ lost. inl (refl, c.has_stopped.ensures.tells)
 
 pub returns-then-has_stopped-clause-short : goal.returns-then-has_stopped-clause-short
-returns-then-has_stopped-clause-short g c = λ _ lost. inl refl
+returns-then-has_stopped-clause-short g c = λ _ lost. inl (refl, c.has_stopped.ensures.tells)
 
 pub returns-clause-gone : goal.returns-clause-gone
 returns-clause-gone g c = λ e sane. gone_by c.args.run.now.space.now c.args.self.now c.idle.new.self c.has_stopped.new.self c.has_stopped.ensures.same.2 c.has_stopped.ensures.same.0.2 (c.idle.ensures.gone e)
@@ -83,6 +84,7 @@ returns-then-has_task-clause-went g c = λ more.
       drew = c.advance.ensures.drew;
       stands = λ t at. record { place = still.place; known = still.known; misses = still.misses };
       counted = λ t at. (c.requires.counts (search rules), record { same = c.advance.ensures.card ∙ c.has_stopped.ensures.same.2; throughout = c.advance.ensures.ended ∙ c.has_stopped.ensures.ended });
+      unread = λ t at. c.advance.ensures.reads ∙ c.has_stopped.ensures.same.0.2;
       read = search rules;
       looked = search rules;
       began_so = search rules;
