@@ -162,7 +162,7 @@ impl<'a> Table<'a> {
     {
         let first = self.inherited_count(base);
         let Table { mut entries, index } = self;
-        have_room(entries.len(), first, own.all.len())?;
+        check_room(entries.len(), first, own.all.len())?;
         let number = entries.len() as u32;
         let (line, owned) = (line_at(&entries, base), owned_at(&entries, base));
         let Indexed { index, line, owned } = index.with(
@@ -203,7 +203,7 @@ impl<'a> Table<'a> {
 }
 
 /// Whether one more class and so many methods fit. More are of a program that no memory holds.
-fn have_room(classes: usize, inherited: usize, own: usize) -> Result<(), AllocError>
+fn check_room(classes: usize, inherited: usize, own: usize) -> Result<(), AllocError>
     ensures fit { OnOk result ((classes < 4294967295) × (inherited + own ≤ 4294967295)) }
     ensures large { OnErr result ((4294967295 ≤ classes) ⊎ (4294967296 ≤ inherited + own)) }
 {

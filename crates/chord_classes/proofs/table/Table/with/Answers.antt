@@ -29,12 +29,12 @@ invariant_of-result c =
     let number : c.len-number.result ≡ length entries.items = (let few = entries.ok.0 in omega (arith, few, c.len-number.ensures)) in
     table_extended c.args.self entries.items c.push.new.self.items old.names new.index.names old.lines new.index.lines old.owners new.index.owners _ c.items.result.now new.line c.len-number.result
     c.self.view_is c.self.invariant
-    (let few = entries.ok.0 in omega (arith, few, c.len.ensures, c.in_ok-have_room.ensures.fit.0))
+    (let few = entries.ok.0 in omega (arith, few, c.len.ensures, c.in_ok-check_room.ensures.fit.0))
     (record {
       base = c.requires.base;
       first = c.inherited_count-first.ensures;
       grown = c.requires.own;
-      fits = (let own = c.args.own.all.ok.0 in omega (arith, own, c.len-2.ensures, c.in_ok-have_room.ensures.fit.1));
+      fits = (let own = c.args.own.all.ok.0 in omega (arith, own, c.len-2.ensures, c.in_ok-check_room.ensures.fit.1));
       builder = c.requires.builder;
     })
     c.in_ok-push.ensures.items c.in_ok-index.ensures.names c.items.ensures.bytes refl
