@@ -39,7 +39,7 @@ impl<T: Drop> From<AllocFailed<T>> for JournalFault {
 ///
 /// `At` exactly where the bytes are no text of a journal, with the least line that is wrong: line 0 is no header,
 /// line i + 1 is missing or is not the line of an entry with number i, or a byte follows the last line.
-/// `Memory` where the call ran out of memory.
+/// `Memory` where the call ran out of memory, for which it asks only behind a header that counts an entry.
 pub fn read(alloc: Global, bytes: &[u8]) -> Result<Journal, JournalFault>
     // What is read has these bytes as its text.
     ensures found { IfOk result (λ journal. (bytes.now ≡ journal_text journal) × AreTyped journal) }
@@ -49,6 +49,8 @@ pub fn read(alloc: Global, bytes: &[u8]) -> Result<Journal, JournalFault>
     ensures wrong { (k : ℕ) → result ≡ Err (JournalFault.At k) → IsWrongAt bytes.now k }
     // Where a line is the least that is wrong, it is named, unless memory runs out.
     ensures only_wrong { (k : ℕ) → IsWrongAt bytes.now k → UnlessMemory result (Err (JournalFault.At k)) }
+    // Memory is asked for only behind a header that counts an entry.
+    ensures memory { result ≡ Err JournalFault.Memory → HasEntries bytes.now }
     // The header is read without memory: where there is none, that is told.
     ensures header { HasNoHeader bytes.now → result ≡ Err (JournalFault.At 0) }
     // The text of the journal without an entry is read without memory.

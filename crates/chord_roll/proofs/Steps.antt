@@ -5,9 +5,9 @@ use mathlib.Core.Option.{none, some, some-injective, some-ne-none}
 use native.Mathlib.Decide.{ℕ_discrete}
 use lib.ListN.{get_elem?}
 use Rattle.atomic_table.specs.Table.{State, Me, step, keeps, stepped, Allows, Splits}
-use Rattle.atomic_table.proofs.Lists.{at_set, at_snoc, set_again, set_else, set_here, at_longer}
+use Rattle.atomic_table.proofs.Lists.{at_set, at_snoc, set_else, set_here, at_longer}
 use Rattle.chord_roll.specs.declared.turnout.Turnout.{Turnout}
-use Rattle.chord_roll.specs.Roll.{counted_as, at_work, IsRoll, new_card, hired_one, OneTells, counting, counted_off, having_read, stopping, telling, count_begins, count_ends, reads_count, tells_all, reads_stop}
+use Rattle.chord_roll.specs.Roll.{counted_as, at_work, IsRoll, new_card, hired_one, OneTells, counting, counted_off, having_read, asking, stopping, telling, count_begins, count_ends, reads_count, tells_all, reads_stop}
 use Rattle.chord_roll.proofs.Counting.{at_work_bound, at_work_set, at_work_snoc, at_work_at}
 
 -- the roll at a moment
@@ -101,14 +101,18 @@ all_stop s r id me w at same counted one = let wide = r.words in let long = leng
 pub stops_keeps : (slots id : ℕ) (me : Holder) → Allows IsRoll slots id me 1 (λ _. 1) (λ _. tells_all (step slots 1 1 0 none) me 1)
 stops_keeps slots id me s r _ at _ = let w = telling me.0 in (w, keeps, tt, all_stop s r id me w at refl refl (id, w, set_here s.views id w (within s.views id me.0 at), refl), refl)
 
--- where nobody is to stop, nothing changes
-none_stop : (s : Moment) → IsRoll s → (id : ℕ) (me : Holder) → get_elem? s.views id ≡ some me.0 → IsRoll (stepped s 1 (get_or s.words 1 0) id me.1 me.0 keeps)
-none_stop s r id me at = subst (λ (z : List ℕ × List Turnout). IsRoll record { words = z.0; homes = s.homes; views = z.1 }) (λ i. (sym (set_read s.words 1) i, sym (set_again s.views id me.0 at) i)) r
-  where
-    set_read : (l : List ℕ) (i : ℕ) → set l i (get_or l i 0) ≡ l
-    set_read [] i = refl
-    set_read (x ∷ xs) zero = refl
-    set_read (x ∷ xs) (suc i) = λ k. x ∷ set_read xs i k
+-- after a step on the second word that leaves there what it said, the rule holds of a card that tells and stops as before
+none_stop : (s : Moment) → IsRoll s → (id : ℕ) (me : Holder) (w : Turnout) → get_elem? s.views id ≡ some me.0 → w.hired ≡ me.0.hired → w.counts ≡ me.0.counts → w.stops ≡ me.0.stops → w.tells ≡ me.0.tells → IsRoll (stepped s 1 (get_or s.words 1 0) id me.1 w keeps)
+none_stop s r id me w at same counted stopped tell = let x : ℕ = get_or s.words 1 0 in let wide = r.words in let long = length-set s.views id w in let any = r.any in let sum = at_work_set s.views id me.0 w at in let count = r.count in
+    let still : get_or (set s.words 1 x) 0 0 ≡ get_or s.words 0 0 = get_or-set_other s.words 1 0 x 0 (λ e. omega arith) in let weighs : counted_as w.counts ≡ counted_as me.0.counts = ap counted_as counted in
+    let here : get_or (set s.words 1 x) 1 0 ≡ x = get_or-set_same s.words 1 x 0 (omega arith) in record {
+      words = length-set s.words 1 x ∙ wide;
+      count = omega arith;
+      told = λ k t e stop. here ∙ told_set x s.views id me.0 w at (λ e. sym stopped ∙ e) r.told k t e stop;
+      since = ⊎_elim (λ nobody. inl (here ∙ nobody)) (λ one. inr (here ∙ one.0, since_set s.views id me.0 w at (λ e. tell ∙ e) one.1)) r.since;
+      any = omega arith;
+      first = first_set s.views id me.0 w at same r.first;
+    }
 
 -- where the second word is not 0, one has told all, and it is 1
 one_told : (s : Moment) → IsRoll s → get_or s.words 1 0 ≢ 0 → (get_or s.words 1 0 ≡ 1) × OneTells s.views
@@ -125,7 +129,7 @@ stops_not s r id t at nobody = by_cases t.stops refl
 -- it reads whether all are to stop
 pub reads_stop_keeps : (slots id : ℕ) (me : Holder) → Allows IsRoll slots id me 1 (λ n. n) (reads_stop (step slots 1 0 0 none) me)
 reads_stop_keeps slots id me s r _ at _ = let x : ℕ = get_or s.words 1 0 in dite (ℕ_discrete x 0)
-    (λ nobody. (me.0, keeps, tt, none_stop s r id me at, ((λ some. absurd (some nobody)), λ _. (refl, stops_not s r id me.0 at nobody))))
+    (λ nobody. let w = asking me.0 in (w, keeps, tt, none_stop s r id me w at refl refl refl refl, ((λ some. absurd (some nobody)), λ _. (refl, stops_not s r id me.0 at nobody))))
     (λ some. let w = stopping me.0 in let one = one_told s r some in (w, keeps, tt, subst (λ (n : ℕ). IsRoll (stepped s 1 n id me.1 w keeps)) (sym one.0) (all_stop s r id me w at refl refl (since_set s.views id me.0 w at (λ e. e) one.1)), ((λ _. refl), λ nobody. absurd (some nobody))))
 
 -- the first card makes one more

@@ -23,6 +23,10 @@ last_read c = c.seat.me.0.read
 abbrev pub reads : Card → ℕ
 reads c = c.seat.me.0.reads
 
+-- how often its worker asked whether all are to stop
+abbrev pub asks : Card → ℕ
+asks c = c.seat.me.0.asks
+
 -- whether its worker told all to stop, or read that they are to
 abbrev pub stops : Card → Bool
 stops c = c.seat.me.0.stops
@@ -46,3 +50,7 @@ IsSameCard c d = (roll_of d ≡ roll_of c) × (d.seat.id ≡ c.seat.id)
 -- the same card, whose worker has read no number in between
 abbrev pub HasReadNothing : Card → Card → Type 0
 HasReadNothing c d = IsSameCard c d × (last_read d ≡ last_read c) × (reads d ≡ reads c)
+
+-- the same card, whose worker has read no number in between, and has not asked whether all are to stop
+abbrev pub HasAskedNothing : Card → Card → Type 0
+HasAskedNothing c d = HasReadNothing c d × (asks d ≡ asks c)

@@ -30,31 +30,35 @@ pub record IsRoll (s : State (Unit {0}) Turnout) : Type 0 where
 
 -- a card that does not count, and with which nothing was done yet
 abbrev pub new_card : Turnout
-new_card = record { counts = false; ended = 0; hired = 0; read = None; reads = 0; stops = false; tells = false }
+new_card = record { counts = false; ended = 0; hired = 0; read = None; reads = 0; asks = 0; stops = false; tells = false }
 
 -- the card from which one more was made
 abbrev pub hired_one : Turnout → Turnout
-hired_one t = record { counts = t.counts; ended = t.ended; hired = t.hired + 1; read = t.read; reads = t.reads; stops = t.stops; tells = t.tells }
+hired_one t = record { counts = t.counts; ended = t.ended; hired = t.hired + 1; read = t.read; reads = t.reads; asks = t.asks; stops = t.stops; tells = t.tells }
 
 -- the card of a worker that counts from here on
 abbrev pub counting : Turnout → Turnout
-counting t = record { counts = true; ended = t.ended; hired = t.hired; read = t.read; reads = t.reads; stops = t.stops; tells = t.tells }
+counting t = record { counts = true; ended = t.ended; hired = t.hired; read = t.read; reads = t.reads; asks = t.asks; stops = t.stops; tells = t.tells }
 
 -- the card of a worker that was counted off once more
 abbrev pub counted_off : Turnout → Turnout
-counted_off t = record { counts = false; ended = t.ended + 1; hired = t.hired; read = t.read; reads = t.reads; stops = t.stops; tells = t.tells }
+counted_off t = record { counts = false; ended = t.ended + 1; hired = t.hired; read = t.read; reads = t.reads; asks = t.asks; stops = t.stops; tells = t.tells }
 
 -- the card of a worker that has read this number
 abbrev pub having_read : ℕ → Turnout → Turnout
-having_read n t = record { counts = t.counts; ended = t.ended; hired = t.hired; read = Some n; reads = t.reads + 1; stops = t.stops; tells = t.tells }
+having_read n t = record { counts = t.counts; ended = t.ended; hired = t.hired; read = Some n; reads = t.reads + 1; asks = t.asks; stops = t.stops; tells = t.tells }
 
--- the card of a worker that has read that all are to stop
+-- the card of a worker that has asked whether all are to stop
+abbrev pub asking : Turnout → Turnout
+asking t = record { counts = t.counts; ended = t.ended; hired = t.hired; read = t.read; reads = t.reads; asks = t.asks + 1; stops = t.stops; tells = t.tells }
+
+-- the card of a worker that has asked, and read that all are to stop
 abbrev pub stopping : Turnout → Turnout
-stopping t = record { counts = t.counts; ended = t.ended; hired = t.hired; read = t.read; reads = t.reads; stops = true; tells = t.tells }
+stopping t = record { counts = t.counts; ended = t.ended; hired = t.hired; read = t.read; reads = t.reads; asks = t.asks + 1; stops = true; tells = t.tells }
 
 -- the card of a worker that has told all to stop
 abbrev pub telling : Turnout → Turnout
-telling t = record { counts = t.counts; ended = t.ended; hired = t.hired; read = t.read; reads = t.reads; stops = true; tells = true }
+telling t = record { counts = t.counts; ended = t.ended; hired = t.hired; read = t.read; reads = t.reads; asks = t.asks; stops = true; tells = true }
 
 -- a card, and no slots
 abbrev Holder : Type 0
@@ -78,4 +82,4 @@ tells_all st m n m' = m' ≡ (telling m.0, m.1)
 
 -- whether all are to stop is read: the worker knows it then, and where they are not it has told nobody
 abbrev pub reads_stop : Step (Unit {0}) → Holder → ℕ → Holder → Type 0
-reads_stop st m n m' = (n ≢ 0 → m' ≡ (stopping m.0, m.1)) × (n ≡ 0 → (m' ≡ m) × (m.0.stops ≡ false))
+reads_stop st m n m' = (n ≢ 0 → m' ≡ (stopping m.0, m.1)) × (n ≡ 0 → (m' ≡ (asking m.0, m.1)) × (m.0.stops ≡ false))

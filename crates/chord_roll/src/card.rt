@@ -40,7 +40,7 @@ pub struct Card {
 
 impl Card {
     ghost use Rattle.chord_roll.specs.Roll.{counted_as};
-    ghost use Rattle.chord_roll.specs.Cards.{counts, ended, hired, last_read, reads, stops, tells, roll_of, IsFirstCard, IsSameCard, HasReadNothing};
+    ghost use Rattle.chord_roll.specs.Cards.{counts, ended, hired, last_read, reads, asks, stops, tells, roll_of, IsFirstCard, IsSameCard, HasReadNothing, HasAskedNothing};
 
     /// A new roll with one card, which does not count.
     ///
@@ -48,7 +48,7 @@ impl Card {
     ///
     /// `AllocError` where no memory is found.
     pub fn first(alloc: Global) -> Result<Card, AllocError>
-        ensures { IfOk result (λ card. IsFirstCard card × (hired card ≡ 0) × (counts card ≡ false) × (stops card ≡ false) × (ended card ≡ 0) × (last_read card ≡ None) × (reads card ≡ 0)) }
+        ensures { IfOk result (λ card. IsFirstCard card × (hired card ≡ 0) × (counts card ≡ false) × (stops card ≡ false) × (ended card ≡ 0) × (last_read card ≡ None) × (reads card ≡ 0) × (asks card ≡ 0)) }
     {
         let (table, seat) = Table::of_words(alloc, &[0, 0], &())?;
         let roll = Arc::new(alloc, table)?;
@@ -66,10 +66,10 @@ impl Card {
     /// `AllocError` where the roll can be shared no more, as `Arc::clone` says.
     pub fn hire(&mut self) -> Result<Card, AllocError>
         requires first { IsFirstCard self.old × (hired self.old < 65535) }
-        ensures same { HasReadNothing self.old self.new × (counts self.new ≡ counts self.old) × (stops self.new ≡ stops self.old) }
+        ensures same { HasAskedNothing self.old self.new × (counts self.new ≡ counts self.old) × (stops self.new ≡ stops self.old) }
         ensures ended { ended self.new ≡ ended self.old }
         ensures tells { tells self.new ≡ tells self.old }
-        ensures other { IfOk result (λ card. (hired self.new ≡ hired self.old + 1) × (roll_of card ≡ roll_of self.old) × (counts card ≡ false) × (stops card ≡ false) × (ended card ≡ 0) × (last_read card ≡ None) × (reads card ≡ 0)) }
+        ensures other { IfOk result (λ card. (hired self.new ≡ hired self.old + 1) × (roll_of card ≡ roll_of self.old) × (counts card ≡ false) × (stops card ≡ false) × (ended card ≡ 0) × (last_read card ≡ None) × (reads card ≡ 0) × (asks card ≡ 0)) }
     {
         let roll = Arc::clone(&self.roll)?;
         let seat = self.roll.shared.split_seat::<Hire>(&mut self.seat);
@@ -89,7 +89,7 @@ impl Card {
 
     /// The worker is at work from here on, if it was not.
     pub fn begin(&mut self)
-        ensures same { HasReadNothing self.old self.new × (hired self.new ≡ hired self.old) × (stops self.new ≡ stops self.old) }
+        ensures same { HasAskedNothing self.old self.new × (hired self.new ≡ hired self.old) × (stops self.new ≡ stops self.old) }
         ensures counts { counts self.new ≡ true }
         ensures ended { ended self.new ≡ ended self.old }
         ensures tells { tells self.new ≡ tells self.old }
@@ -105,7 +105,7 @@ impl Card {
     /// The worker is at work no more, if it was. Whoever sleeps is not woken, even if this was the last one at work: those that sleep look
     /// again by themselves, and a wake-up is a call of the system.
     pub fn end(&mut self)
-        ensures same { HasReadNothing self.old self.new × (hired self.new ≡ hired self.old) × (stops self.new ≡ stops self.old) }
+        ensures same { HasAskedNothing self.old self.new × (hired self.new ≡ hired self.old) × (stops self.new ≡ stops self.old) }
         ensures counts { counts self.new ≡ false }
         ensures ended { ended self.new ≡ ended self.old + counted_as (counts self.old) }
         ensures tells { tells self.new ≡ tells self.old }
@@ -123,6 +123,7 @@ impl Card {
         ensures tells { tells self.new ≡ tells self.old }
         ensures read { last_read self.new ≡ Some result }
         ensures reads { reads self.new ≡ reads self.old + 1 }
+        ensures asks { asks self.new ≡ asks self.old }
         ensures own { counts self.old ≡ true → 0 < result }
     {
         self.roll.shared.load::<Read>(&mut self.seat, COUNT)
@@ -143,7 +144,7 @@ impl Card {
 
     /// All are to stop, and those that sleep are woken.
     pub fn stop(&mut self)
-        ensures same { HasReadNothing self.old self.new × (hired self.new ≡ hired self.old) × (counts self.new ≡ counts self.old) }
+        ensures same { HasAskedNothing self.old self.new × (hired self.new ≡ hired self.old) × (counts self.new ≡ counts self.old) }
         ensures ended { ended self.new ≡ ended self.old }
         ensures tells { (tells self.new ≡ true) × (stops self.new ≡ true) }
     {
@@ -156,6 +157,7 @@ impl Card {
         ensures same { HasReadNothing self.old self.new × (hired self.new ≡ hired self.old) × (counts self.new ≡ counts self.old) }
         ensures ended { ended self.new ≡ ended self.old }
         ensures tells { tells self.new ≡ tells self.old }
+        ensures asks { asks self.new ≡ asks self.old + 1 }
         ensures told { result ≡ true → stops self.new ≡ true }
         ensures not_yet { result ≡ false → (stops self.old ≡ false) × (stops self.new ≡ false) }
     {

@@ -12,6 +12,8 @@ pub struct Turnout {
     pub read: Option<u64>,
     /// How often its worker read such a number.
     pub reads: u64,
+    /// How often its worker asked whether all are to stop.
+    pub asks: u64,
     /// Its worker told all to stop, or read that they are to.
     pub stops: bool,
     /// Its worker told all to stop.

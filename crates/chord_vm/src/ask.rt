@@ -31,7 +31,7 @@ fn drop_old(asked: &mut Option<Ask>)
     *asked = None;
 }
 
-/// Makes a place empty. A drop looks at each kind of ask, so it stands apart, where an empty place does not come to it.
+/// Makes a place empty. A drop looks at each kind of ask, so it stands in a function of its own, which is not called where the place is empty.
 #[inline(always)]
 pub(crate) fn clear_ask(asked: &mut Option<Ask>)
     ensures { asked.new ≡ None }
