@@ -318,10 +318,11 @@ found_first knows s x b l y worker known begins plays onward before through fres
   throughout = throughout;
 }
 
--- a player that did not count looked among all numbers from where its look begins, and found none: it was b before that look, and l after it
-pub in_vain_near : (s : Space Parcel) (x b l : Player) → b.worker ≡ x.worker → BeginsLook x b.place b.misses → counts x.card ≡ false → KnowsCount s l
-    → LookedThrough b.place l.known (view b.worker.desk) (view l.worker.desk) → FoundNone s b.place (view l.worker.desk) → LookedInVain s x b.place (view l.worker.desk)
-in_vain_near s x b l worker begins not knows through none =
+-- a player that did not count looked from where its look begins, among all numbers, and found none: it was b before that look, and l after it
+pub in_vain_near : (s : Space Parcel) (x b l : Player) (all : Bool) → all ≡ true → b.worker ≡ x.worker → BeginsLook x b.place b.misses → counts x.card ≡ false → KnowsCount s l
+    → LookedThrough b.place (if all then l.known else min b.known l.known) (view b.worker.desk) (view l.worker.desk) → FoundNone s b.place (view l.worker.desk) → LookedInVain s x b.place (view l.worker.desk)
+in_vain_near s x b l all among_all worker begins not knows looked none =
+    let through = subst (λ (a : Bool). LookedThrough b.place (if a then l.known else min b.known l.known) (view b.worker.desk) (view l.worker.desk)) among_all looked in
     let known : l.known ≡ min none.count s.events = knows.2 ∙ ap (λ (n : ℕ). min n s.events) (same_Some knows.0 none.count (sym knows.1 ∙ none.counted)) in
     let after = through_from (view x.worker.desk) (view b.worker.desk) (view l.worker.desk) b.place l.known (ap (λ (w : Worker). (view w.desk).looked.seen) worker) through in record {
       uncounted = not;

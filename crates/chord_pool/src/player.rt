@@ -1,6 +1,6 @@
 //! A worker at its thread: it plays what it has, and looks for more.
 ghost use Rattle.std.specs.Prelude.{◌≡◌, ◌≢◌, ◌<◌, ◌≤◌, ◌+◌, ◌-◌, true, false, if◌then◌else◌, min, None, Some, is_some, IfNone, IfSome};
-ghost use Rattle.chord_roll.specs.Cards.{counts, ended, last_read, reads, stops, tells, HasReadNothing, IsSameCard};
+ghost use Rattle.chord_roll.specs.Cards.{counts, ended, last_read, reads, asks, stops, tells, HasAskedNothing, IsSameCard};
 ghost use Rattle.chord_roll.specs.Roll.{counted_as};
 ghost use Rattle.chord_pool.specs.declared.player.Player.{Player as ThePlayer};
 ghost use Rattle.chord_space.specs.Desks.{view};
@@ -84,7 +84,7 @@ fn try_start<'a, G: Gate>(
     ensures worker { IsFit run.now.space.now worker.new }
     ensures role { IsSameRole (view worker.old.desk) (view worker.new.desk) }
     ensures task { result ≡ is_some worker.new.task }
-    ensures card { HasReadNothing card.old card.new }
+    ensures card { HasAskedNothing card.old card.new }
     ensures stops { stops card.new ≡ stops card.old }
     ensures counts { result ≡ true → counts card.new ≡ true }
     ensures as_before { result ≡ false → counts card.new ≡ counts card.old }
@@ -125,7 +125,7 @@ fn sweep<'a, G: Gate>(
     ensures worker { IsFit run.now.space.now worker.new }
     ensures role { IsSameRole (view worker.old.desk) (view worker.new.desk) }
     ensures task { is_some result ≡ is_some worker.new.task }
-    ensures card { HasReadNothing card.old card.new }
+    ensures card { HasAskedNothing card.old card.new }
     ensures stops { stops card.new ≡ stops card.old }
     ensures counts { is_some result ≡ true → counts card.new ≡ true }
     ensures as_before { IfNone result (counts card.new ≡ counts card.old) }
@@ -165,7 +165,7 @@ fn find_work<'a, G: Gate>(
     requires bounds { below ≤ run.now.space.now.events }
     ensures worker { IsFit run.now.space.now worker.new }
     ensures role { IsSameRole (view worker.old.desk) (view worker.new.desk) }
-    ensures card { HasReadNothing card.old card.new }
+    ensures card { HasAskedNothing card.old card.new }
     ensures stops { stops card.new ≡ stops card.old }
     ensures counts { worker.new.task ≢ None → counts card.new ≡ true }
     ensures as_before { worker.new.task ≡ None → counts card.new ≡ counts card.old }
@@ -227,6 +227,7 @@ impl Player {
         ensures tells { result ≡ false → tells self.new.card ≡ true }
         ensures short { result ≡ false → IsOutOfMemory run.now.space.now self.new.worker }
         ensures reads { reads self.new.card ≡ reads self.old.card }
+        ensures asks { asks self.new.card ≡ asks self.old.card }
         ensures went { result ≡ true → (t : TheTask) → self.old.worker.task ≡ Some t → HasGoneOn (view self.old.worker.desk).kept t self.new.worker }
         ensures plays { result ≡ true → (t : TheTask) → self.old.worker.task ≡ Some t → PlaysNext G.knows (view self.old.worker.desk).kept t self.new.worker }
         ensures drew { (t : TheTask) → self.old.worker.task ≡ Some t → DrewAStep t (view self.old.worker.desk).draws (view self.new.worker.desk).draws }
@@ -268,7 +269,7 @@ impl Player {
         ensures worker { IsFit run.now.space.now self.new.worker }
         ensures role { IsSameRole (view self.old.worker.desk) (view self.new.worker.desk) }
         ensures same { (self.new.failed ≡ self.old.failed) × (self.new.misses ≡ self.old.misses) }
-        ensures card { HasReadNothing self.old.card self.new.card }
+        ensures card { HasAskedNothing self.old.card self.new.card }
         ensures stops { stops self.new.card ≡ stops self.old.card }
         ensures counts { self.new.worker.task ≢ None → counts self.new.card ≡ true }
         ensures as_before { self.new.worker.task ≡ None → counts self.new.card ≡ counts self.old.card }
@@ -314,7 +315,7 @@ impl Player {
         ensures worker { IsFit run.now.space.now self.new.worker }
         ensures role { IsSameRole (view self.old.worker.desk) (view self.new.worker.desk) }
         ensures same { self.new.failed ≡ self.old.failed }
-        ensures card { HasReadNothing self.old.card self.new.card }
+        ensures card { HasAskedNothing self.old.card self.new.card }
         ensures stops { stops self.new.card ≡ stops self.old.card }
         ensures began { BeganForEach (view self.old.worker.desk) (view self.new.worker.desk) self.old.card self.new.card }
         ensures counts { self.new.worker.task ≢ None → counts self.new.card ≡ true }
@@ -367,6 +368,7 @@ impl Player {
         ensures stays { counts self.old.card ≡ true → result ≡ true }
         ensures gone { result ≡ false → HasGone run.now.space.now self.old self.new }
         ensures read { reads self.new.card ≡ reads self.old.card + 1 }
+        ensures asks { asks self.new.card ≡ asks self.old.card }
     {
         // Read before the look: what is posted later is posted by a worker that is at work now, or by one of those whose work
         // this look finds.
@@ -399,7 +401,7 @@ impl Player {
     /// The worker goes for good, and is at work no more: those that sleep are to look once more, and go too.
     fn leave(&mut self)
         ensures same { (self.new.worker ≡ self.old.worker) × (self.new.failed ≡ self.old.failed) }
-        ensures card { HasReadNothing self.old.card self.new.card × (stops self.new.card ≡ stops self.old.card) }
+        ensures card { HasAskedNothing self.old.card self.new.card × (stops self.new.card ≡ stops self.old.card) }
         ensures counts { counts self.new.card ≡ false }
         ensures ended { ended self.new.card ≡ ended self.old.card + counted_as (counts self.old.card) }
         ensures tells { tells self.new.card ≡ tells self.old.card }
@@ -432,7 +434,8 @@ impl Player {
         ensures last { result ≡ false → BeganToTheEnd self.old self.new }
         ensures short { result ≡ false → HasFailed run.now.space.now self.old self.new }
         ensures gone { result ≡ false → self.new.failed ≡ false → HasGone run.now.space.now self.old self.new }
-        ensures asked { result ≡ true → stops self.new.card ≡ false }
+        ensures asked { asks self.new.card ≡ asks self.old.card + 1 }
+        ensures untold { result ≡ true → stops self.new.card ≡ false }
     {
         if self.card.has_stopped() {
             self.failed = true;
@@ -471,7 +474,7 @@ impl Player {
         ensures went { result ≡ true → (before : ThePlayer) × IsOnTheWay run.now.space.now self.old before × HadARound G.knows run.now.space.now before self.new }
         ensures had { result ≡ true → HadRounds G.knows run.now.space.now self.old self.new }
         ensures off { result ≡ false → HasLeftOff G.knows run.now.space.now self.old self.new }
-        ensures asked { result ≡ true → stops self.new.card ≡ false }
+        ensures untold { result ≡ true → stops self.new.card ≡ false }
     {
         for _round in 0..ROUNDS {
             if !self.round(rt, alloc, run, gate, pause) {

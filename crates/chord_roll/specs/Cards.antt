@@ -53,4 +53,4 @@ HasReadNothing c d = IsSameCard c d × (last_read d ≡ last_read c) × (reads d
 
 -- the same card, whose worker has read no number in between, and has not asked whether all are to stop
 abbrev pub HasAskedNothing : Card → Card → Type 0
-HasAskedNothing c d = HasReadNothing c d × (asks d ≡ asks c)
+HasAskedNothing c d = IsSameCard c d × (last_read d ≡ last_read c) × (reads d ≡ reads c) × (asks d ≡ asks c)

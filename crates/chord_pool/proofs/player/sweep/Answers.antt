@@ -13,7 +13,7 @@ loop-i-preserved g c =
       saw_it.count ∙ was.3,
       unready_more c.args.from c.loop-i.i (view c.loop-i.worker.desk) (view c.try_start.new.worker.desk) was.4 saw_it,
       now.as_before refl ∙ was.5,
-      ((now.card.0.0 ∙ was.6.0.0, now.card.0.1 ∙ was.6.0.1), now.card.1 ∙ was.6.1, now.card.2 ∙ was.6.2),
+      ((now.card.0.0 ∙ was.6.0.0, now.card.0.1 ∙ was.6.0.1), now.card.1 ∙ was.6.1, now.card.2 ∙ was.6.2, now.card.3 ∙ was.6.3),
       now.stops ∙ was.7,
       saw_it.kept ∙ was.8,
       (let within = c.loop-i-test.true in omega (arith, within)),

@@ -24,7 +24,7 @@ loop-preserved g c = let was = c.loop.invariant in let now = c.if-not-rounds.ens
 pub returns-then-not-rounds-clause-off : goal.returns-then-not-rounds-clause-off
 returns-then-not-rounds-clause-off g c =
     left_off_later g.G.Gate.knows c.args.run.now.space.now c.args.player c.loop.player c.rounds.new.self c.leave.new.self c.loop.invariant.6 (c.if-not-rounds.ensures.off refl) c.leave.ensures.same.0 c.leave.ensures.same.1
-    (began_off c.rounds.new.self.card c.leave.new.self.card c.leave.ensures.counts c.leave.ensures.ended) c.leave.ensures.tells c.leave.ensures.card.0.1 c.leave.ensures.card.0.2
+    (began_off c.rounds.new.self.card c.leave.new.self.card c.leave.ensures.counts c.leave.ensures.ended) c.leave.ensures.tells c.leave.ensures.card.0.1 c.leave.ensures.card.0.2 c.leave.ensures.card.0.3
 
 pub returns-then-not-rounds-clause-played : goal.returns-then-not-rounds-clause-played
 returns-then-not-rounds-clause-played g c =

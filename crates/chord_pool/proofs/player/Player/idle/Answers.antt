@@ -1,7 +1,7 @@
-use Rattle.std.proofs.Common.{◌≡◌, ◌∙◌, refl, sym, ap, subst, min, if◌then◌else◌, Bool, true, false, Some, inl, inr, rules, arith}
+use Rattle.std.proofs.Common.{◌≡◌, ◌∙◌, refl, sym, ap, true, false, Some, inl, inr, rules, arith}
 use Rattle.std.proofs.lemmas.Bool.{ne_eqb, eq-eqb}
 use Rattle.chord_roll.specs.Cards.{counts, ended, last_read, reads}
-use Rattle.chord_pool.specs.Players.{began, LookedThrough}
+use Rattle.chord_pool.specs.Players.{began}
 use Rattle.chord_pool.proofs.Looking.{none_there, found_first, found_far, found_none, in_vain_near, behind, looked_again, began_as, began_off, began_more, began_since}
 use Rattle.chord_pool.proofs.Endings.{task_started}
 use Rattle.chord_space.specs.Desks.{view}
@@ -64,9 +64,7 @@ returns-then-working-eq0-clause-looked g c = λ _.
     let counted : counts c.args.self.now.card ≡ false = sym c.read-working.ensures.same.2 ∙ sym (ap counts same.1) ∙ sym c.if-counted-2.ensures in
     let was_read : last_read c.begin_look.new.self.card ≡ Some 0 = ap last_read same.1 ∙ c.read-working.ensures.read ∙ ap Some c.if-working-eq0.true in
     let read : last_read c.found-then-working-eq0.new.self.card ≡ Some 0 = ap last_read found.same.3 ∙ far.card.1 ∙ look.card.1 ∙ was_read in
-    let vain = in_vain_near c.args.run.now.space.now c.args.self.now c.begin_look.new.self c.look.new.self same.0 (record { near = begins.near; far = begins.far }) counted (look.knows none)
-    (subst (λ (b : Bool). LookedThrough c.begin_look.new.self.place (if b then c.look.new.self.known else min c.begin_look.new.self.known c.look.new.self.known) (view c.begin_look.new.self.worker.desk) (view c.look.new.self.worker.desk)) all (look.through none))
-    (look.all all was_read none) in
+    let vain = in_vain_near c.args.run.now.space.now c.args.self.now c.begin_look.new.self c.look.new.self c.if-counted.look all same.0 (record { near = begins.near; far = begins.far }) counted (look.knows none) (look.through none) (look.all all was_read none) in
     inl (found_far g.G.Gate.knows c.args.run.now.space.now c.begin_look.new.self.place c.args.self.now c.look.new.self c.look_far.new.self c.found-then-working-eq0.new.self vain
     (behind c.begin_look.new.self.place c.look.new.self.worker c.look_far.new.self.worker far.stays none some) (far.found some) c.requires.idle (look.kept none ∙ ap (λ (w : Worker). (view w.desk).kept) same.0)
     (far.plays some) (far.before some) read found.same.0 found.same.2 found.misses)
@@ -82,9 +80,7 @@ returns-then-not-has_task-clause-gone g c = λ _.
     let still = none_there c.look_far.new.self.worker.task (sym c.has_task-then-working-eq0.ensures ∙ c.if-not-has_task.true) in
     let counted : counts c.args.self.now.card ≡ false = sym c.read-working.ensures.same.2 ∙ sym (ap counts same.1) ∙ sym c.if-counted-2.ensures in
     let was_read : last_read c.begin_look.new.self.card ≡ Some 0 = ap last_read same.1 ∙ c.read-working.ensures.read ∙ ap Some c.if-working-eq0.true in
-    let vain = in_vain_near c.args.run.now.space.now c.args.self.now c.begin_look.new.self c.look.new.self same.0 (record { near = begins.near; far = begins.far }) counted (look.knows none)
-    (subst (λ (b : Bool). LookedThrough c.begin_look.new.self.place (if b then c.look.new.self.known else min c.begin_look.new.self.known c.look.new.self.known) (view c.begin_look.new.self.worker.desk) (view c.look.new.self.worker.desk)) all (look.through none))
-    (look.all all was_read none) in
+    let vain = in_vain_near c.args.run.now.space.now c.args.self.now c.begin_look.new.self c.look.new.self c.if-counted.look all same.0 (record { near = begins.near; far = begins.far }) counted (look.knows none) (look.through none) (look.all all was_read none) in
     inr (
       far.card.2 ∙ look.card.2 ∙ ap reads same.1 ∙ c.read-working.ensures.reads,
       far.card.1 ∙ look.card.1 ∙ was_read,

@@ -7,6 +7,7 @@ use Rattle.chord_pool.proofs.player.Player.round.Goals as goal
 pub returns-clause-went : goal.returns-clause-went
 returns-clause-went g c = λ more.
     record {
+      asked = c.idle.ensures.asks ∙ c.has_stopped.ensures.asks;
       told_nothing = (c.has_stopped.ensures.not_yet c.if-has_stopped.false).0;
       went = search rules;
       plays = search rules;
@@ -78,6 +79,7 @@ pub returns-then-has_task-clause-went : goal.returns-then-has_task-clause-went
 returns-then-has_task-clause-went g c = λ more.
     let still = c.advance.ensures.stands more in
     record {
+      asked = c.advance.ensures.asks ∙ c.has_stopped.ensures.asks;
       told_nothing = (c.has_stopped.ensures.not_yet c.if-has_stopped.false).0;
       went = c.advance.ensures.went more;
       plays = c.advance.ensures.plays more;

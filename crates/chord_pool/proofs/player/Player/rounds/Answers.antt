@@ -14,7 +14,7 @@ loop-round-preserved g c =
       ((now.on.0.0 ∙ was.1.0.0, now.on.0.1 ∙ was.1.0.1), λ sane. role_stays (view c.args.self.now.worker.desk) (view c.loop-round.self.worker.desk) (view c.round.new.self.worker.desk) (was.1.1 was.2) (now.on.1 sane)),
       now.sane refl,
       now.counts refl,
-      (λ _. now.asked refl),
+      (λ _. now.untold refl),
       (λ _. (c.loop-round.self, record { on = was.1; sane = was.2; settled = was.0 was.2; counts_so = was.3; told_nothing = (now.went refl).told_nothing }, now.went refl)),
       one_round_more g.G.Gate.knows c.args.run.now.space.now c.args.self.now c.loop-round.self c.round.new.self was.6 (now.went refl),
     )
@@ -26,7 +26,7 @@ pub returns-clause-had : goal.returns-clause-had
 returns-clause-had g c = λ _. c.loop-round.invariant.6
 
 pub returns-then-not-round-clause-off : goal.returns-then-not-round-clause-off
-returns-then-not-round-clause-off g c = λ _. record { last = c.loop-round.self; had = c.loop-round.invariant.6; off = c.if-not-round.ensures.off refl; began_so = c.if-not-round.ensures.last refl; short = c.if-not-round.ensures.short refl; gone = c.if-not-round.ensures.gone refl }
+returns-then-not-round-clause-off g c = λ _. record { last = c.loop-round.self; had = c.loop-round.invariant.6; asked = c.if-not-round.ensures.asked; off = c.if-not-round.ensures.off refl; began_so = c.if-not-round.ensures.last refl; short = c.if-not-round.ensures.short refl; gone = c.if-not-round.ensures.gone refl }
 
-pub returns-clause-asked : goal.returns-clause-asked
-returns-clause-asked g c = λ _. c.loop-round.invariant.4 (omega arith)
+pub returns-clause-untold : goal.returns-clause-untold
+returns-clause-untold g c = λ _. c.loop-round.invariant.4 (omega arith)
