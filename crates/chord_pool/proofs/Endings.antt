@@ -27,7 +27,7 @@ use Rattle.chord_worker.specs.Resting.{IsSameRole, IsSeen, beside_task}
 use Rattle.chord_pool.specs.declared.ending.Alone.{Alone}
 use Rattle.chord_pool.specs.Players.{AreAmong, IsFit, IsSettled, IsUnready, IsCrew, LookedOnce, LookedThrough}
 use Rattle.chord_pool.specs.Ending.{AreAwake, HasComeTo, IsAloneWorker, IsLast, IsRunOver, IsStirred, SawAsleep, SawLimit, HasLookedAlone}
-use Rattle.chord_pool.proofs.Looking.{last_stays, among_more, plays_since, not_ready, count_ready-append, through_once, through_from}
+use Rattle.chord_pool.proofs.Looking.{last_stays, among_more, each_more, plays_since, not_ready, count_ready-append, through_once, through_from}
 
 -- the role of a desk stays over two steps
 pub role_stays : (u v w : View) → IsSameRole u v → IsSameRole v w → IsSameRole u w
@@ -66,6 +66,7 @@ come_by_look v w i x look asleep unready = record {
   looks = record { number = i; word = x } ∷ [];
   seen = look.seen;
   among = (omega arith, omega arith, tt);
+  each = λ k above low. inl (omega (arith, above, low));
   asleep = inl (refl, asleep);
   before = awake_none i w.looked.seen;
   unready_looks = let none = not_ready x.cell unready in rw none (omega arith);
@@ -79,6 +80,7 @@ come_by_start v u w i x look ready again = record {
   looks = record { number = i; word = again.word } ∷ record { number = i; word = x } ∷ [];
   seen = again.seen ∙ ap (λ (l : List Look). record { number = i; word = again.word } ∷ l) look.seen;
   among = (omega arith, omega arith, (omega arith, omega arith, tt));
+  each = λ k above low. inl (omega (arith, above, low));
   asleep = inr (inl (refl, subst IsAsleep (sym ready) tt));
   before = awake_none i w.looked.seen;
   unready_looks = rw (not_ready again.word.cell again.unready, ready) (omega arith);
@@ -96,6 +98,7 @@ come_on from i u v w low awake was come = record {
   looks = come.looks ++ was.looks;
   seen = come.seen ∙ ap (λ (l : List Look). come.looks ++ l) was.seen ∙ sym (append_assoc come.looks was.looks u.looked.seen);
   among = among_more from i come.looks was.looks low come.among was.among;
+  each = each_more from i come.looks was.looks come.each was.each;
   asleep = saw_more i come.looks was.looks come.asleep;
   before = subst (AreAwake from i) (sym come.seen) (awake_stay from i (i + 1) come.looks v.looked.seen come.among awake);
   unready_looks = let long = length-append come.looks was.looks in let ready = count_ready-append come.looks was.looks in let a = come.unready_looks in let b = was.unready_looks in omega (arith, low, long, ready, a, b);
@@ -114,6 +117,7 @@ come_since from to u v w same come = record {
   looks = come.looks;
   seen = come.seen ∙ ap (λ (l : List Look). come.looks ++ l) same;
   among = come.among;
+  each = come.each;
   asleep = come.asleep;
   before = come.before;
   unready_looks = come.unready_looks;

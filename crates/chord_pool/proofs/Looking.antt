@@ -24,7 +24,7 @@ use Rattle.chord_worker.specs.declared.worker.Worker.{Worker}
 use Rattle.chord_worker.specs.Resting.{IsSeen}
 use Rattle.chord_worker.specs.Stepping.{PlaysFiring}
 use Rattle.chord_pool.specs.declared.player.Player.{Player}
-use Rattle.chord_pool.specs.Players.{is_ready, count_ready, AreAmong, AreUnready, FoundNoneBelow, LookedAmong, LookedOnce, LookedThrough, BeganForEach, began, SawUnready, FoundNone, KnowsCount, HasStarted, BeginsLook, LookedInVain, LookedAgain, HasGone, HasFound, HasFoundNone, HasLooked}
+use Rattle.chord_pool.specs.Players.{is_ready, count_ready, AreAmong, IsLookedAt, AreLookedAt, AreUnready, FoundNoneBelow, LookedAmong, LookedOnce, LookedThrough, BeganForEach, began, SawUnready, FoundNone, KnowsCount, HasStarted, BeginsLook, LookedInVain, LookedAgain, HasGone, HasFound, HasFoundNone, HasLooked}
 
 -- a look at a cell that is not ready
 pub seen_once : (v w : View) (i : ℕ) (x : Word) → IsSeen v w i x → x.cell ≢ Ready → SawUnready v w i
@@ -75,7 +75,7 @@ looked_refused v w i c next told unready = record { word = a_word c next; unread
 
 -- no number was looked at
 pub through_none : (from : ℕ) (v : View) → LookedThrough from from v v
-through_none from v = record { looks = []; seen = refl; among = tt; unready_looks = omega arith; ready = omega arith }
+through_none from v = record { looks = []; seen = refl; among = tt; each = λ k above low. absurd (omega (arith, above, low)); unready_looks = omega arith; ready = omega arith }
 
 -- one look at one number, in which no firing was ready
 pub through_once : (v w : View) (i : ℕ) (x : Word) → x.cell ≢ Ready → w.looked.seen ≡ record { number = i; word = x } ∷ v.looked.seen → LookedThrough i (i + 1) v w
@@ -83,6 +83,7 @@ through_once v w i x unready seen = record {
   looks = record { number = i; word = x } ∷ [];
   seen = seen;
   among = (omega arith, omega arith, tt);
+  each = λ k above low. inl (omega (arith, above, low));
   unready_looks = let none = not_ready x.cell unready in rw none (omega arith);
   ready = let none = not_ready x.cell unready in rw none (omega arith);
 }
@@ -93,6 +94,7 @@ through_twice v u w i x ready seen again = record {
   looks = record { number = i; word = again.word } ∷ record { number = i; word = x } ∷ [];
   seen = again.seen ∙ ap (λ l. record { number = i; word = again.word } ∷ l) seen;
   among = (omega arith, omega arith, (omega arith, omega arith, tt));
+  each = λ k above low. inl (omega (arith, above, low));
   unready_looks = rw (not_ready again.word.cell again.unready, ready) (omega arith);
   ready = rw (not_ready again.word.cell again.unready, ready) (omega arith);
 }
@@ -116,6 +118,23 @@ pub among_more : (from i : ℕ) (xs ys : List Look) → from ≤ i → AreAmong 
 among_more from i [] [] low one was = tt
 among_more from i [] (y ∷ ys) low one was = (was.0, (let below = was.1 in omega (arith, below)), among_more from i [] ys low one was.2)
 among_more from i (x ∷ xs) ys low one was = ((let above = one.0 in omega (arith, low, above)), one.1, among_more from i xs ys low one.2 was)
+
+-- a look among others is one among these and more
+looked_at_first : (i : ℕ) (xs ys : List Look) → IsLookedAt i xs → IsLookedAt i (xs ++ ys)
+looked_at_first i [] ys at = absurd at
+looked_at_first i (x ∷ xs) ys (inl here) = inl here
+looked_at_first i (x ∷ xs) ys (inr there) = inr (looked_at_first i xs ys there)
+
+-- wherever these stand
+looked_at_behind : (i : ℕ) (xs ys : List Look) → IsLookedAt i ys → IsLookedAt i (xs ++ ys)
+looked_at_behind i [] ys at = at
+looked_at_behind i (x ∷ xs) ys at = inr (looked_at_behind i xs ys at)
+
+-- looks at each number of some, and then at the next one
+pub each_more : (from i : ℕ) (xs ys : List Look) → AreLookedAt i (i + 1) xs → AreLookedAt from i ys → AreLookedAt from (i + 1) (xs ++ ys)
+each_more from i xs ys one was k above low = dite (ℕ_discrete k i)
+    (λ e. looked_at_first k xs ys (one k (omega (arith, e)) low))
+    (λ ne. looked_at_behind k xs ys (was k above (omega (arith, low, ne))))
 
 -- looks at numbers in a row, of which there may be none
 among_all : (from i below : ℕ) (looks : List Look) → i ≤ max from below → AreAmong from i looks → AreAmong from below looks
@@ -150,7 +169,7 @@ among_twice u v w i was now = record {
 
 -- numbers were looked at after something that was no look at a cell
 pub through_from : (u v w : View) (from below : ℕ) → v.looked.seen ≡ u.looked.seen → LookedThrough from below v w → LookedThrough from below u w
-through_from u v w from below same was = record { looks = was.looks; seen = was.seen ∙ ap (λ l. was.looks ++ l) same; among = was.among; unready_looks = was.unready_looks; ready = was.ready }
+through_from u v w from below same was = record { looks = was.looks; seen = was.seen ∙ ap (λ l. was.looks ++ l) same; among = was.among; each = was.each; unready_looks = was.unready_looks; ready = was.ready }
 
 -- nothing was looked at, on the same card
 pub began_none : (v : View) (c : Card) → BeganForEach v v c c
@@ -258,6 +277,7 @@ through_more u v w from i low was one = record {
   looks = one.looks ++ was.looks;
   seen = one.seen ∙ ap (λ l. one.looks ++ l) was.seen ∙ sym (append_assoc one.looks was.looks u.looked.seen);
   among = among_more from i one.looks was.looks low one.among was.among;
+  each = each_more from i one.looks was.looks one.each was.each;
   unready_looks = let long = length-append one.looks was.looks in let ready = count_ready-append one.looks was.looks in let a = one.unready_looks in let b = was.unready_looks in omega (arith, low, long, ready, a, b);
   ready = let ready = count_ready-append one.looks was.looks in let a = one.ready in let b = was.ready in omega (arith, low, ready, a, b);
 }
@@ -268,6 +288,7 @@ through_all v w from i below end within was = record {
   looks = was.looks;
   seen = was.seen;
   among = among_all from i below was.looks within was.among;
+  each = λ k above low. was.each k above (omega (arith, low, end));
   unready_looks = let long = was.unready_looks in omega (arith, long, end, within);
   ready = let few = was.ready in omega (arith, few, end, within);
 }

@@ -13,7 +13,7 @@ use Rattle.chord_worker.specs.declared.worker.Worker.{Worker}
 use Rattle.chord_worker.specs.Resting.{IsAtRest}
 use Rattle.chord_worker.specs.Stepping.{DrewAStep, HasGoneOn, PlaysNext, PlaysFiring, StillPlays}
 use Rattle.chord_pool.specs.declared.ending.Alone.{Alone}
-use Rattle.chord_pool.specs.Players.{count_ready, AreAmong, IsSettled, IsUnready, LookedAtAll, LookedAtNone, LookedThrough}
+use Rattle.chord_pool.specs.Players.{count_ready, AreAmong, AreLookedAt, IsSettled, IsUnready, LookedAtAll, LookedAtNone, LookedThrough}
 
 -- each cell from `from` up to below `below` was looked at, and was last neither woken nor ready
 abbrev pub AreAwake : (from below : ℕ) → List Look → Type 0
@@ -24,12 +24,13 @@ abbrev pub SawAsleep : ℕ → List Look → Type 0
 SawAsleep i [] = ⊥
 SawAsleep i (l ∷ ls) = ((i ≡ l.number) × IsAsleep l.word.cell) ⊎ SawAsleep i ls
 
--- between these views the desk looked at cells from `from` up to `to` and at no other ones, and saw `to` asleep, and each cell before it was last neither woken nor ready: as many looks as these are read no firing ready, and at most as many more read one that was
+-- between these views the desk looked at each cell from `from` up to `to` and at no other ones, and saw `to` asleep, and each cell before it was last neither woken nor ready: as many looks as these are read no firing ready, and at most as many more read one that was
 pub record HasComeTo (from to : ℕ) (v w : View) : Type 0 where
   pub onward : from ≤ to
   pub looks : List Look
   pub seen : w.looked.seen ≡ looks ++ v.looked.seen
   pub among : AreAmong from (to + 1) looks
+  pub each : AreLookedAt from (to + 1) looks
   pub asleep : SawAsleep to looks
   pub before : AreAwake from to w.looked.seen
   pub unready_looks : length looks ≡ ((to + 1) - from) + count_ready looks

@@ -83,6 +83,15 @@ abbrev pub AreAmong : ℕ → ℕ → List Look → Type 0
 AreAmong from below [] = Unit {0}
 AreAmong from below (l ∷ ls) = (from ≤ l.number) × (l.number < below) × AreAmong from below ls
 
+-- one of these looks was at the number i
+abbrev pub IsLookedAt : ℕ → List Look → Type 0
+IsLookedAt i [] = ⊥
+IsLookedAt i (l ∷ ls) = (i ≡ l.number) ⊎ IsLookedAt i ls
+
+-- these looks were at each number from `from` up to below `below`
+abbrev pub AreLookedAt : ℕ → ℕ → List Look → Type 0
+AreLookedAt from below looks = (i : ℕ) → from ≤ i → i < below → IsLookedAt i looks
+
 -- between these views the desk looked at cells from `from` up to below `below` and at no other ones
 pub record LookedAmong (from below : ℕ) (v w : View) : Type 0 where
   pub looks : List Look
@@ -95,11 +104,12 @@ pub record LookedOnce (i : ℕ) (v w : View) : Type 0 where
   pub unready : word.cell ≢ Ready
   pub seen : w.looked.seen ≡ record { number = i; word = word } ∷ v.looked.seen
 
--- between these views the desk looked at cells from `from` up to below `below` and at no other ones: as many looks as these are read no firing ready, and at most as many more read one that was
+-- between these views the desk looked at each cell from `from` up to below `below` and at no other ones: as many looks as these are read no firing ready, and at most as many more read one that was
 pub record LookedThrough (from below : ℕ) (v w : View) : Type 0 where
   pub looks : List Look
   pub seen : w.looked.seen ≡ looks ++ v.looked.seen
   pub among : AreAmong from below looks
+  pub each : AreLookedAt from below looks
   pub unready_looks : length looks ≡ (below - from) + count_ready looks
   pub ready : count_ready looks ≤ below - from
 
