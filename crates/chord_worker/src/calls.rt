@@ -86,6 +86,7 @@ impl Worker {
         requires rest { IsAtRest space.now self.old }
         requires first { ((view self.old.desk).first ≡ true) × ((view self.old.desk).splits < 65535) }
         ensures mine { IsAtRest space.now self.new × (self.new.task ≡ self.old.task) × (view self.new.desk ≡ lent_one (view self.old.desk)) }
+        ensures frame { self.new ≡ record self.old { desk = self.new.desk } }
         ensures other { IsAtRest space.now result × (result.task ≡ None) × ((view result.desk).spent ≡ false) }
     {
         Worker {
@@ -123,6 +124,7 @@ impl Worker {
     pub fn count(&mut self, space: &Space<Parcel>) -> u32
         requires rest { IsAtRest space.now self.old }
         ensures rest { IsAtRest space.now self.new × (self.new.task ≡ self.old.task) }
+        ensures frame { self.new ≡ record self.old { desk = self.new.desk } }
         ensures counted { (c : ℕ) × (result ≡ min c space.now.events) × (view self.new.desk ≡ saw_count (view self.old.desk) c) }
     {
         space.look_count(&mut self.desk)
@@ -135,6 +137,7 @@ impl Worker {
         requires room { (view self.old.desk).spent ≡ false }
         requires bounds { i < space.now.events }
         ensures rest { IsAtRest space.now self.new × (self.new.task ≡ None) }
+        ensures frame { self.new ≡ record self.old { desk = self.new.desk } }
         ensures seen { (x : Word) × (result ≡ x.cell) × IsSeen (view self.old.desk) (view self.new.desk) i x }
     {
         space.look_cell(&mut self.desk, i).cell
@@ -159,6 +162,7 @@ impl Worker {
         requires bounds { i < space.now.events }
         requires ready { LastSawReady (view self.old.desk) i }
         ensures rest { IsAtRest space.now self.new × IsSameRole (view self.old.desk) (view self.new.desk) }
+        ensures frame { self.new ≡ record self.old { desk = self.new.desk; task = self.new.task } }
         ensures room { (view self.new.desk).spent ≡ false }
         ensures task { result ≡ is_some self.new.task }
         ensures plays { result ≡ true → PlaysFiring G.knows (view self.old.desk).kept self.old.task self.new i }
@@ -186,6 +190,7 @@ impl Worker {
         requires tasks { (self.old.task ≡ None) × (other.task ≡ None) }
         requires first { (view self.old.desk).first ≡ true }
         ensures united { view self.new.desk ≡ united (view self.old.desk) (view other.desk) }
+        ensures lists { OnOk result ((self.new.draws ≡ self.old.draws) × (self.new.taken.items ≡ self.old.taken.items ++ other.draws ∷ other.taken.items)) }
         ensures rest { OnOk result (IsAtRest space.now self.new × (self.new.task ≡ None)) }
         ensures role { OnOk result (((view self.new.desk).first ≡ true) × ((view self.new.desk).lent ≡ (view self.old.desk).lent - 1) × ((view self.old.desk).drawn ≡ true → (view self.new.desk).drawn ≡ true)) }
     {
@@ -214,6 +219,7 @@ impl Worker {
         requires rest { IsAtRest space.now self }
         requires task { self.task ≡ None }
         ensures desk { IfOk result (λ r. r.0 ≡ self.desk) }
+        ensures lists { IfOk result (λ r. r.1.items ≡ self.taken.items ++ self.draws ∷ []) }
         ensures entries { IfOk result (λ r. IsPermutation (flat_map (λ list. list.items) r.1.items) (view self.desk).draws) }
         ensures alone { IfOk result (λ r. (list : Vec Entry Global) → r.1.items ≡ list ∷ [] → list.items ≡ reverse (view self.desk).draws) }
     {

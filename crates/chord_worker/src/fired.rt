@@ -142,6 +142,7 @@ fn take_task(caller: Option<Apart<Task>>, spare: &mut Option<Apart<Task>>) -> Ap
     requires stock { spare.old ≢ None }
     ensures task { (stock : ATask) → spare.old ≡ Some stock → result ≡ caller_or caller stock }
     ensures spare { (spare.new ≡ spare.old) ⊎ (spare.new ≡ None) }
+    ensures kept { caller ≢ None → spare.new ≡ spare.old }
 {
     match caller {
         Some(task) => task,
@@ -171,6 +172,7 @@ fn begin_with_several(
     ensures task { IsTaskOf code.now task.old.limits task.new }
     ensures past { task_begun (view_of task.old) drawn.number drawn.chord drawn.object members.now (laid (for_entry (gathered_in arguments.old.one arguments.old.more))) (view_of task.new) }
     ensures top { (view_of task.new).top ≡ Some drawn.number }
+    ensures ended { task.new.ended ≡ task.old.ended }
     ensures listed { AddsOne task.old.past task.new.past draws.old.items draws.new.items }
     ensures none { (arguments.new.one.first ≡ []) × (arguments.new.more ≡ None) }
 {
@@ -213,6 +215,7 @@ fn begin_body(
     ensures task { IsTaskOf code.now task.old.limits task.new }
     ensures past { task_begun (view_of task.old) drawn.number drawn.chord drawn.object members.now (laid (for_entry (gathered_in arguments.old.one arguments.old.more))) (view_of task.new) }
     ensures top { (view_of task.new).top ≡ Some drawn.number }
+    ensures ended { task.new.ended ≡ task.old.ended }
     ensures listed { AddsOne task.old.past task.new.past draws.old.items draws.new.items }
     ensures none { (arguments.new.one.first ≡ []) × (arguments.new.more ≡ None) }
 {

@@ -38,7 +38,11 @@ pub(crate) struct Minded {
 fn reserve_draw(draws: &mut Vec<Entry>) -> bool
     ensures items { draws.new.items ≡ draws.old.items }
     ensures room { result ≡ true → vec_len draws.new < vec_capacity draws.new }
+    ensures stays { vec_len draws.old < vec_capacity draws.old → (draws.new ≡ draws.old) × (result ≡ true) }
 {
+    if draws.len() < draws.capacity() {
+        return true;
+    }
     match draws.reserve(1) {
         Ok(()) => true,
         Err(_) => false,

@@ -1,10 +1,10 @@
 //! A task comes to its next ask, which becomes an entry of the run.
-ghost use Rattle.std.specs.Prelude.{◌≡◌, ◌≢◌, ◌<◌, false, Some, None, IfOk, OnOk, OnErr, MatchResult, IfSome, IfNone, vec_len};
+ghost use Rattle.std.specs.Prelude.{◌≡◌, ◌≢◌, ◌<◌, false, Some, None, IfOk, OnOk, OnErr, IsOk, MatchResult, IfSome, IfNone, vec_len};
 ghost use Rattle.chord_base.specs.declared.event.End.{End as AnEnd};
 ghost use Rattle.chord_base.specs.Story.{IsSound};
 ghost use Rattle.chord_space.specs.Desks.{view, space_code, space_limits, program_of, IsDeskOf, IsSameDesk, MayDraw};
 ghost use Rattle.chord_task.specs.declared.task.Task.{Task as ATask};
-ghost use Rattle.chord_task.specs.Standing.{view_of};
+ghost use Rattle.chord_task.specs.Standing.{view_of, SettlesFrames};
 ghost use Rattle.chord_task.specs.Turning.{RunsOn, HasCome, OwnsNothing};
 ghost use Rattle.chord_vm.specs.Frames.{what_of_ask};
 ghost use Rattle.chord_worker.specs.Playing.{DrawsOne, IsDrawnAs, IsNotedFrom, HeardOfLimit};
@@ -51,6 +51,7 @@ pub(crate) fn see_to_stock(
     requires { IsStock code.now limits.now stock.old }
     ensures stock { OnOk result (IsStock code.now limits.now stock.new) }
     ensures some { OnOk result (stock.new ≢ None) }
+    ensures stays { stock.old ≢ None → (stock.new ≡ stock.old) × IsOk result }
 {
     if stock.is_some() {
         return Ok(());
@@ -115,6 +116,7 @@ pub(crate) fn draw_own(
     ensures within { IfOk result (λ x. IfSome x (λ n. n < space.now.events)) }
     ensures listed { IfOk result (λ x. IfSome x (λ _. DrawsOne (view desk.old).draws (view desk.new).draws draws.old.items draws.new.items)) }
     ensures over { IfOk result (λ x. IfSome x (λ _. (e : AnEnd) → asked.old ≡ Some (Ask.End e) → vec_len task.old.below ≡ 0 → task.new.top ≡ None)) }
+    ensures frames { IfOk result (λ x. IfSome x (λ _. (a : Ask) → asked.old ≡ Some a → SettlesFrames code.now task.old (what_of_ask a) task.new)) }
     ensures told { IfOk result (λ x. IfNone x (HeardOfLimit (view desk.old) (view desk.new))) }
     ensures same { IfOk result (λ x. IfNone x (draws.new.items ≡ draws.old.items)) }
     ensures bare { OnOk result (OwnsNothing asked.new) }

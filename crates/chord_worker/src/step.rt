@@ -1,5 +1,6 @@
 //! A worker plays its task to the next ask, and does what follows from it.
-ghost use Rattle.std.specs.Prelude.{◌≡◌, ◌≢◌, ◌⊎◌, Bool, true, false, List, Some, None, OnOk, OnErr};
+ghost use Rattle.std.specs.Prelude.{◌≡◌, ◌≢◌, ◌⊎◌, Bool, true, false, List, Some, None, OnOk, OnErr, vec_len};
+ghost use Rattle.chord_base.specs.declared.event.End.{End as AnEnd};
 ghost use Rattle.chord_base.specs.declared.event.Entry.{Entry as AnEntry};
 ghost use Rattle.chord_base.specs.declared.event.Limits.{Limits as TheLimits};
 ghost use Rattle.chord_base.specs.Story.{IsSound};
@@ -50,6 +51,7 @@ impl Worker {
         ensures lists { (self.new.draws ≡ self.old.draws) × (self.new.taken ≡ self.old.taken) }
         ensures spare { self.old.spare ≢ None → self.new.spare ≡ self.old.spare }
         ensures stock { (code : Parts) (limits : TheLimits) → IsTaskOf code limits task → IsStock code limits self.old.spare → IsStock code limits self.new.spare }
+        ensures serves { self.old.spare ≡ None → task.top ≡ None → self.new.spare ≢ None }
         ensures task { (self.new.task ≡ None) ⊎ (self.new.task ≡ Some task) }
         ensures settled { (code : Parts) (limits : TheLimits) (kept : List AnEntry) (spent : Bool) → IsInMemory code limits kept spent (Some task) → IsInMemory code limits kept spent self.new.task × MayContinue self.new.task }
     {
@@ -109,6 +111,7 @@ impl Worker {
         ensures over { OnOk result (self.new.spent ≡ true → self.new.task ≡ None) }
         ensures went { OnOk result (HasGoneOn (view self.old.desk).kept task self.new) }
         ensures plays { OnOk result (PlaysNoOther task self.new.task) }
+        ensures stocked { OnOk result ((e : AnEnd) → asked.old ≡ Some (Ask.End e) → vec_len task.below ≡ 0 → (self.new.spare ≢ None) ⊎ (self.new.spent ≡ true)) }
         ensures bare { OnOk result (OwnsNothing asked.new) }
         ensures drew { DrewAStep task (view self.old.desk).draws (view self.new.desk).draws }
         ensures short { OnErr result (IsOutOfMemory space.now self.new) }

@@ -59,3 +59,9 @@ returns-in-Ok-clause-over c =
     let room = rw (c.deref_mut.ensures.value ∙ c.task.view_is) at c.in_ok-make_room.ensures.room in
     let over = rw (c.deref_mut-in-Ok.ensures.value) at c.settle.ensures.over in
     over c.args.task.now room
+
+pub returns-in-Ok-clause-frames : goal.returns-in-Ok-clause-frames
+returns-in-Ok-clause-frames c =
+    let room = rw (c.deref_mut.ensures.value ∙ c.task.view_is) at c.in_ok-make_room.ensures.room in
+    let frames = rw (c.deref_mut-in-Ok.ensures.value) at c.settle.ensures.frames in
+    frames c.args.task.now room

@@ -1,5 +1,5 @@
 use Rattle.std.specs.Prelude.{IfSome}
-use Rattle.std.proofs.Common.{◌≡◌, ℕ, Bool, Option, Some, refl, sym, ap, subst, ◌∙◌, inl, inr, Vec, Global}
+use Rattle.std.proofs.Common.{◌≡◌, ℕ, Bool, Option, Some, None, vec_len, refl, sym, ap, subst, ◌∙◌, inl, inr, Vec, Global}
 use Rattle.chord_base.specs.declared.event.Entry.{Entry}
 use Rattle.chord_base.specs.Story.{IsIn}
 use Rattle.chord_rule.specs.declared.view.View.{View}
@@ -7,11 +7,14 @@ use Rattle.chord_rule.specs.Kinds.{entry}
 use Rattle.chord_space.specs.declared.space.Desk.{Desk}
 use Rattle.chord_space.specs.Desks.{view, space_code, space_limits, IsSameDesk}
 use Rattle.chord_task.specs.declared.parcel.Opened.{Opened as Parcel}
+use Rattle.chord_base.specs.declared.event.End.{End}
 use Rattle.chord_vm.specs.declared.ask.Ask.{Ask}
+use Rattle.chord_vm.specs.declared.ask.Ask.TheVariants as ask
 use Rattle.chord_vm.specs.Frames.{what_of_ask}
 use Rattle.chord_worker.specs.Playing.{DrawsOne, IsNotedAs, IsNotedFrom, HeardOfLimit}
 use Rattle.chord_worker.specs.Resting.{IsInMemory}
 use Rattle.chord_worker.proofs.Given.{some_ask, value_of_some, where_none}
+use Rattle.chord_worker.proofs.Ended.{stays_stocked}
 use Rattle.chord_worker.proofs.Drawn.{was_noted, step_drew, none_drew}
 use Rattle.chord_worker.proofs.Resting.{rest_noted, role_noted, rest_told, role_told}
 use Rattle.chord_worker.specs.Stepping.{PlaysNoOther}
@@ -127,3 +130,9 @@ returns-in-None-clause-drew c =
 
 pub returns-in_err-draw_own-clause-drew : goal.returns-in_err-draw_own-clause-drew
 returns-in_err-draw_own-clause-drew c = inl (ap (λ (z : View). z.draws) c.in_err-draw_own.ensures.undrawn.0)
+
+pub returns-in-Some-clause-stocked : goal.returns-in-Some-clause-stocked
+returns-in-Some-clause-stocked c = λ e asked alone.
+    let n = c.in-Some.field-0 in
+    let top = value_of_some _ n (λ _. (e : End) → c.args.asked.now ≡ Some (ask.End e) → vec_len c.args.task.below ≡ 0 → c.draw_own.new.task.top ≡ None) c.in-Some.is c.in_ok-draw_own.ensures.over e asked alone in
+    inl (stays_stocked c.args.self.now.spare c.settle.new.self.spare c.settle.ensures.spare (λ none. c.settle.ensures.serves none top))
