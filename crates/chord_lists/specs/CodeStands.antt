@@ -1,5 +1,5 @@
 -- What the bodies of a run of a code are after a history: its entries in order, and tasks, each of which made some of them.
-use Rattle.std.specs.Prelude.{is_none, ◌≡◌, ℕ, ◌≤◌, ◌⊎◌, ◌==◌, List, [], ◌∷◌, ◌++◌, reverse, length, Bool, true, false, Option, Some, None, slice_get, if◌then◌else◌}
+use Rattle.std.specs.Prelude.{is_none, ◌≡◌, ℕ, ◌+◌, ◌≤◌, ◌⊎◌, ◌==◌, List, [], ◌∷◌, ◌++◌, reverse, length, Bool, true, false, Option, Some, None, slice_get, if◌then◌else◌}
 use Rattle.chord_base.specs.declared.event.Entry.{Entry}
 use Rattle.chord_base.specs.declared.event.Limits.{Limits}
 use Rattle.chord_base.specs.declared.event.What.{What}
@@ -60,6 +60,12 @@ is_on_top at list = is_place at (slice_get list 0)
 abbrev pub topped_by : ℕ → List ℕ → List ℕ
 topped_by at list = if is_on_top at list then list else at ∷ list
 
+-- one place came behind the list, or none
+pub record HasOneMoreAtMost (old new : List ℕ) : Type 0 where
+  pub come : List ℕ
+  pub is : new ≡ old ++ come
+  pub few : length come ≤ 1
+
 -- ## Tasks that may go on, and tasks that wait
 
 -- whether a task, if there is one, may go on
@@ -94,9 +100,13 @@ over_at tasks i = over_in (slice_get tasks i)
 pub record AreOver (tasks : List Task) (over : List ℕ) : Type 0 where
   pub all : (i : ℕ) → over_at tasks i ≡ true → has i over ≡ true
 
+-- the list with the place of a task on top once more, if the task is over
+abbrev pub with_over : List Task → ℕ → List ℕ → List ℕ
+with_over tasks at over = if over_at tasks at then at ∷ over else over
+
 -- a body begins in a task that stood there, or in one more, where it serves no call and no task was over
 abbrev pub StoodOrAlone : List Task → List Task → Option ℕ → Type 0
-StoodOrAlone old new served = (length new ≡ length old) ⊎ ((served ≡ None) × ((i : ℕ) → over_at old i ≡ false))
+StoodOrAlone old new served = (length new ≡ length old) ⊎ ((length new ≡ length old + 1) × (served ≡ None) × ((i : ℕ) → over_at old i ≡ false))
 
 -- ## The whole
 

@@ -9,7 +9,7 @@ ghost use Rattle.chord_base.specs.Bodies.{served_among};
 ghost use Rattle.chord_code.specs.Meaning.{code_program, method_is_sync};
 ghost use Rattle.chord_lists.specs.Engine.{main_begun, IsRunOfLength, MayGoOn, Went, MayBegin, Began};
 ghost use Rattle.chord_task.specs.Standing.{view_of};
-ghost use Rattle.chord_lists.specs.CodeStands.{StandsAfter, StandsWith, IsCut, AreReady, AreOver, StoodOrAlone, ready_at, over_at, is_on_top, topped_by, turn_to, WentAt, IsMessageAt, AreMessagesAt, message_at, sent_arguments, sent_values, home, Serves, FitsAt, MayReplay, Replayed};
+ghost use Rattle.chord_lists.specs.CodeStands.{StandsAfter, StandsWith, IsCut, HasOneMoreAtMost, AreReady, AreOver, StoodOrAlone, ready_at, over_at, with_over, is_on_top, topped_by, turn_to, WentAt, IsMessageAt, AreMessagesAt, message_at, sent_arguments, sent_values, home, Serves, FitsAt, MayReplay, Replayed};
 
 use crate::engine::Turn;
 use chord_base::event::{Entry, Limits, What};
@@ -158,6 +158,8 @@ fn make(
     ensures went { IfOk result (λ turn. (h : List Entry) → IsRunOfLength (code_program code.now limits.now) number h → StandsAfter code.now limits.now bodies.old h → WentAt (code_program code.now limits.now) bodies.old.tasks.items at (StandsAfter code.now limits.now bodies.new) h turn) }
     ensures ready { OnOk result (bodies.new.ready.items ≡ bodies.old.ready.items) }
     ensures homed { OnOk result (bodies.new.homes.items ≡ bodies.old.homes.items ++ at ∷ []) }
+    ensures over { OnOk result (reverse bodies.new.over.items ≡ with_over bodies.new.tasks.items at (reverse bodies.old.over.items)) }
+    ensures tasks { OnOk result (length bodies.new.tasks.items ≡ length bodies.old.tasks.items) }
 {
     let _parts = code.parts();
     let task = &mut bodies.tasks[at as usize];
@@ -207,6 +209,8 @@ pub fn go_on(
     ensures went { IfOk result (λ turn. Went (code_program code.now limits.now) (StandsAfter code.now limits.now bodies.old) (StandsAfter code.now limits.now bodies.new) number turn) }
     ensures cut { OnOk result (IsCut bodies.old.ready.items bodies.new.ready.items) }
     ensures top { OnOk result (bodies.new.homes.items ≡ bodies.old.homes.items ++ take 1 (reverse bodies.new.ready.items)) }
+    ensures over { OnOk result (HasOneMoreAtMost bodies.old.over.items bodies.new.over.items) }
+    ensures tasks { OnOk result (length bodies.new.tasks.items ≡ length bodies.old.tasks.items) }
 {
     match next_ready(&bodies.tasks, &mut bodies.ready) {
         None => Ok(Turn::Over),
@@ -328,6 +332,7 @@ fn begin_at(
     ensures began { IfOk result (λ _. Began (code_program code.now limits.now) (StandsWith code.now limits.now bodies.old (at ∷ reverse bodies.old.over.items)) (StandsAfter code.now limits.now bodies.new) number chord object members.old) }
     ensures ready { OnOk result (reverse bodies.new.ready.items ≡ topped_by at (reverse bodies.old.ready.items)) }
     ensures top { OnOk result (bodies.new.homes.items ≡ bodies.old.homes.items ++ take 1 (reverse bodies.new.ready.items)) }
+    ensures over { OnOk result (bodies.new.over.items ≡ bodies.old.over.items) }
     ensures tasks { OnOk result (length bodies.new.tasks.items ≡ length bodies.old.tasks.items) }
 {
     let _parts = code.parts();
@@ -376,7 +381,10 @@ fn begin_alone(
     requires may { MayBegin (code_program code.now limits.now) (StandsAfter code.now limits.now bodies.old) number chord object members.old }
     requires call { Serves (code_program code.now limits.now) chord object members.old None }
     ensures began { IfOk result (λ _. Began (code_program code.now limits.now) (StandsAfter code.now limits.now bodies.old) (StandsAfter code.now limits.now bodies.new) number chord object members.old) }
+    ensures ready { OnOk result (bodies.new.ready.items ≡ bodies.old.ready.items ++ length bodies.old.tasks.items ∷ []) }
     ensures top { OnOk result (bodies.new.homes.items ≡ bodies.old.homes.items ++ take 1 (reverse bodies.new.ready.items)) }
+    ensures over { OnOk result (bodies.new.over.items ≡ bodies.old.over.items) }
+    ensures tasks { OnOk result (length bodies.new.tasks.items ≡ length bodies.old.tasks.items + 1) }
 {
     let at = place_after(&bodies.tasks);
     let _parts = code.parts();
@@ -418,6 +426,8 @@ pub fn begin_body(
     requires call { Serves (code_program code.now limits.now) chord object members.old served }
     ensures began { IfOk result (λ _. Began (code_program code.now limits.now) (StandsAfter code.now limits.now bodies.old) (StandsAfter code.now limits.now bodies.new) number chord object members.old) }
     ensures top { OnOk result (bodies.new.homes.items ≡ bodies.old.homes.items ++ take 1 (reverse bodies.new.ready.items)) }
+    ensures ready { OnOk result (HasOneMoreAtMost bodies.old.ready.items bodies.new.ready.items) }
+    ensures over { OnOk result (IsCut bodies.old.over.items bodies.new.over.items) }
     ensures reuse { OnOk result (StoodOrAlone bodies.old.tasks.items bodies.new.tasks.items served) }
 {
     match served {

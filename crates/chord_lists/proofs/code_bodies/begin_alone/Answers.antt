@@ -1,6 +1,6 @@
 use Rattle.std.proofs.Common.{◌≡◌, ◌∙◌, ◌++◌, ◌∷◌, [], refl, sym, ap, subst, arith, length, reverse, List, ℕ}
 use Rattle.std.specs.Prelude.{slice_get}
-use Rattle.std.proofs.lemmas.List.{reverse-append}
+use Rattle.std.proofs.lemmas.List.{reverse-append, length-append}
 use Rattle.chord_base.specs.declared.value.Value.{Value}
 use Rattle.chord_base.specs.declared.event.Entry.{Entry}
 use Rattle.chord_base.specs.Bodies.{served_among}
@@ -70,3 +70,11 @@ returns-clause-began c =
     (ap reverse c.in_ok-push-2.ensures.items ∙ reverse-append c.args.bodies.now.ready.items (c.place_after-at.result ∷ []) ∙ ap (λ i. i ∷ reverse c.args.bodies.now.ready.items) at)
     refl
     (c.in_ok-push-3.ensures.items ∙ ap (λ i. c.args.bodies.now.homes.items ++ i ∷ []) (c.place_of.ensures ∙ at))
+
+pub returns-clause-ready : goal.returns-clause-ready
+returns-clause-ready c =
+    let at : c.place_after-at.result ≡ length c.args.bodies.now.tasks.items = c.place_after-at.ensures.place ∙ ap length c.deref.ensures.value in
+    c.in_ok-push-2.ensures.items ∙ ap (λ i. c.args.bodies.now.ready.items ++ i ∷ []) at
+
+pub returns-clause-tasks : goal.returns-clause-tasks
+returns-clause-tasks c = ap length c.in_ok-push.ensures.items ∙ length-append c.args.bodies.now.tasks.items (c.resume_with.new.self ∷ [])

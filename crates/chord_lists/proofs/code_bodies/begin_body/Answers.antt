@@ -1,8 +1,9 @@
-use Rattle.std.proofs.Common.{◌∙◌, ap, Some}
+use Rattle.std.proofs.Common.{◌∙◌, ap, length, Some}
 use Rattle.chord_lists.specs.CodeStands.{home}
 use Rattle.chord_lists.proofs.CodeFiring.{caller, call_served}
 use Rattle.chord_lists.proofs.CodeOver.{stands_over, stands_later}
 use Rattle.chord_lists.proofs.OverTasks.{none_over}
+use Rattle.chord_lists.proofs.Gaining.{one_came, topped_gains, none_went, last_went, all_went}
 use Rattle.chord_lists.proofs.code_bodies.begin_body.Goals as goal
 
 pub home_of-at-requires : goal.home_of-at-requires
@@ -56,3 +57,28 @@ returns-in_ok-begin_alone-in-None-next_over-clause-began c =
     let none = rw (c.in-None-next_over.is, c.deref-in-None.ensures.value) at c.next_over.ensures.none in
     c.in_ok-begin_alone-in-None-next_over.ensures.began h vs played
     (stands_over c.args.code.now c.args.limits.now c.args.bodies.now c.next_over.new.over _ h s (none_over c.args.bodies.now.tasks.items _ none)) f
+
+pub returns-in_ok-begin_at-in-Some-clause-ready : goal.returns-in_ok-begin_at-in-Some-clause-ready
+returns-in_ok-begin_at-in-Some-clause-ready c =
+    topped_gains c.home_of-at.result c.args.bodies.now.ready.items c.begin_at.new.bodies.ready.items c.in_ok-begin_at-in-Some.ensures.ready
+
+pub returns-in_ok-begin_at-in-Some-next_over-clause-ready : goal.returns-in_ok-begin_at-in-Some-next_over-clause-ready
+returns-in_ok-begin_at-in-Some-next_over-clause-ready c =
+    topped_gains c.in-Some-next_over.at c.args.bodies.now.ready.items c.begin_at-in-Some-next_over.new.bodies.ready.items c.in_ok-begin_at-in-Some-next_over.ensures.ready
+
+pub returns-in_ok-begin_alone-in-None-next_over-clause-ready : goal.returns-in_ok-begin_alone-in-None-next_over-clause-ready
+returns-in_ok-begin_alone-in-None-next_over-clause-ready c =
+    one_came (length c.args.bodies.now.tasks.items) c.args.bodies.now.ready.items c.begin_alone.new.bodies.ready.items c.in_ok-begin_alone-in-None-next_over.ensures.ready
+
+pub returns-in_ok-begin_at-in-Some-clause-over : goal.returns-in_ok-begin_at-in-Some-clause-over
+returns-in_ok-begin_at-in-Some-clause-over c =
+    none_went c.args.bodies.now.over.items c.begin_at.new.bodies.over.items c.in_ok-begin_at-in-Some.ensures.over
+
+pub returns-in_ok-begin_at-in-Some-next_over-clause-over : goal.returns-in_ok-begin_at-in-Some-next_over-clause-over
+returns-in_ok-begin_at-in-Some-next_over-clause-over c =
+    last_went c.in-Some-next_over.at c.args.bodies.now.over.items c.next_over.new.over.items c.begin_at-in-Some-next_over.new.bodies.over.items c.in_ok-begin_at-in-Some-next_over.ensures.over
+    (rw c.in-Some-next_over.is at c.next_over.ensures.cut)
+
+pub returns-in_ok-begin_alone-in-None-next_over-clause-over : goal.returns-in_ok-begin_alone-in-None-next_over-clause-over
+returns-in_ok-begin_alone-in-None-next_over-clause-over c =
+    all_went c.args.bodies.now.over.items c.begin_alone.new.bodies.over.items (c.in_ok-begin_alone-in-None-next_over.ensures.over ∙ rw c.in-None-next_over.is at c.next_over.ensures.empty)

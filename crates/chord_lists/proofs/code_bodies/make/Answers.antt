@@ -1,4 +1,4 @@
-use Rattle.std.proofs.Common.{◌≡◌, ◌∙◌, ◌++◌, ◌∷◌, [], sym, ap, subst, refl, arith, true}
+use Rattle.std.proofs.Common.{◌≡◌, ◌∙◌, ◌++◌, ◌∷◌, [], sym, ap, subst, refl, arith, reverse, true}
 use Rattle.std.proofs.lemmas.Option.{get_or_from_slice_get, slice_get_within}
 use Rattle.chord_code.specs.Meaning.{code_program}
 use Rattle.chord_task.specs.declared.task.Task.{Task}
@@ -8,6 +8,7 @@ use Rattle.chord_task.specs.Turning.{MayTurn, Turned}
 use Rattle.chord_lists.specs.CodeStands.{turn_to}
 use Rattle.chord_lists.proofs.CodeSteps.{ready_task, may_turn, went_at}
 use Rattle.chord_lists.proofs.CodeTasks.{turn_told}
+use Rattle.chord_lists.proofs.Gaining.{over_went}
 use Rattle.chord_lists.proofs.code_bodies.make.Goals as goal
 
 pub index_mut-task-requires : goal.index_mut-task-requires
@@ -67,3 +68,9 @@ returns-clause-went c =
     let homes = c.in_ok-push.ensures.items ∙ ap (λ i. bodies.homes.items ++ i ∷ []) c.place_of.ensures in
     let is = c.turn_to.ensures ∙ ap turn_to w.2 ∙ turn_told w.0 in
     went_at code limits bodies _ h c.args.number c.args.at t.0 c.turn.new.self w.0 c.turn_to.result c.parts-parts.ensures.valid c.requires.sound c.requires.room played s t.1 t.2 u listed homes is refl refl c.in_ok-keep_over.ensures
+
+pub returns-clause-over : goal.returns-clause-over
+returns-clause-over c =
+    let xs = c.args.bodies.now.tasks.items in
+    let t = ready_task xs c.args.at c.requires.ready in
+    c.in_ok-keep_over.ensures ∙ sym (over_went xs c.args.at c.turn.new.self t.0 (reverse c.args.bodies.now.over.items) t.1)
