@@ -34,6 +34,6 @@ returns-clause-through g c = λ none.
     let before = view c.count-count.new.self.desk in
     let after = view c.find_work-self.new.worker.desk in
     let below : c.if-among_all.below ≡ (if c.args.among_all then c.count-count.result else min c.args.self.now.known c.count-count.result) =
-        elim c.if-among_all.branch [ then-among_all w ↦ rw w.if-among_all.true w.below-is | else-among_all w ↦ rw w.if-among_all.false (w.below-is ∙ w.min-below.ensures) ] in
+    elim c.if-among_all.branch [ then-among_all w ↦ rw w.if-among_all.true w.below-is | else-among_all w ↦ rw w.if-among_all.false (w.below-is ∙ w.min-below.ensures) ] in
     through_from (view c.args.self.now.worker.desk) before after place _ (ap (λ (v : View). v.looked.seen) c.count-count.ensures.counted.2)
     (subst (λ (n : ℕ). LookedThrough place n before after) below (c.find_work-self.ensures.through none))
