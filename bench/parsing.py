@@ -47,7 +47,7 @@ def main():
     ]
     source = one_line()
     # where the place of the refusal stands is found by going over the source once more, which is neither lexing nor parsing
-    ours = common.instructions_without('pointing_line', [program, 'run', '--one'], source, f'refused syntax {LINES + 3}:1\n'.encode()) - few
+    ours = common.instructions_without('put_pointing_line', [program, 'run', '--one'], source, f'refused syntax {LINES + 3}:1\n'.encode()) - few
     common.tell('one line, lexed and parsed', ours / len(source), 140, 'instructions a byte', f'{len(source)} bytes, 140 at most are wanted')
     for name, source, refusal in sources:
         ours = common.instructions([program, 'run', '--one'], source, refusal.encode()) - few

@@ -1,12 +1,17 @@
-//! The program: the words of the command line, standard input and standard output go to the top call as they are.
+//! The program: the words of the command line without the program's name, standard input and standard output go to the top call
+//! as they are.
 //! Stands on: chord_run, chord_io. Used by: nobody.
-//! Promise: none of its own; what a run writes is what `chord` promises.
-//! Not here: any decision but that words which are not text are no words of the command line.
+//! Promise: where the words cannot be taken it ends with 7 if there is no memory for them, and else with 2, since words which are
+//! not text are no words of the command line (`status_of`). What a run writes is what `chord` promises.
+//! Not here: any other decision.
 #![tactic(auto)]
+
+ghost use Rattle.std.specs.Prelude.{◌≡◌};
 
 use chord_io::{StdSink, StdSource};
 use chord_run::{Gate, chord};
 use std::alloc::Global;
+use std::io::ErrorKind;
 use std::process::ExitCode;
 use std::rt::Env;
 use std::{env, io, mem};
@@ -23,15 +28,21 @@ fn words<R: Env + Alloc<A = Global>>(rt: &R) -> io::Result<Vec<String>> {
     Ok(env::args(rt)?.skip(1).collect(rt.alloc())?)
 }
 
+/// The status where the words cannot be taken: out of memory, or other words than those of the command line.
+fn status_of(kind: ErrorKind) -> u8
+    ensures memory { kind ≡ ErrorKind.OutOfMemory → result ≡ 7 }
+    ensures other { (kind ≡ ErrorKind.OutOfMemory → ⊥) → result ≡ 2 }
+{
+    match kind {
+        ErrorKind::OutOfMemory => 7,
+        _ => 2,
+    }
+}
+
 fn main(rt: HostRuntime) -> ExitCode {
     let words = match words(&rt) {
         Ok(words) => words,
-        Err(error) => {
-            return ExitCode::from(match error.kind() {
-                io::ErrorKind::OutOfMemory => 7,
-                _ => 2,
-            });
-        }
+        Err(error) => return ExitCode::from(status_of(error.kind())),
     };
     let mut source = StdSource::new(rt.stdin());
     let mut sink = StdSink::new(rt.stdout());

@@ -16,7 +16,7 @@ use Rattle.chord_run.proofs.Causes.{cause_refuses, due_cases, run_status, text_a
 
 -- the causes of the silent answers and of the answer 5
 pub record IsCaused (arguments : List (List ℕ)) (status read_before read_after write_before write_after : ℕ) : Type 0 where
-  pub accepted : status ≡ 2 → AreAccepted arguments → ⊥
+  pub words : status ≡ 2 → AreAccepted arguments → ⊥
   pub read : status ≡ 3 → Rose read_before read_after
   pub write : status ≡ 5 → Rose write_before write_after
 
@@ -40,7 +40,7 @@ one_request arguments r s a b =
 -- where no I/O call failed, a silent call ran out of memory
 silent_is_memory : {arguments : List (List ℕ)} {r r' w w' : ℕ} (report : Report) (before after : Option (List ℕ)) → IsCaused arguments report.status r r' w w' → AreAccepted arguments → NoneFailed r r' w w' → IsSilence report before after → report.status ≡ 7
 silent_is_memory report before after c a o s = elim s.silent [
-  | inl two ↦ absurd (c.accepted two a)
+  | inl two ↦ absurd (c.words two a)
   | inr (inl three) ↦ absurd (o.read (c.read three))
   | inr (inr seven) ↦ seven
 ]

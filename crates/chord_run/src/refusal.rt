@@ -1,15 +1,15 @@
 //! Why a source is refused, and the line that says so.
 #![tactic(auto)]
 
-ghost use Rattle.std.specs.Prelude.{◌≡◌, IfOk};
+ghost use Rattle.std.specs.Prelude.{ℕ, List};
+ghost use Rattle.chord_io.specs.Pen.{Writes};
 ghost use Rattle.chord_lexer.specs.Reading.{after_byte_order_mark};
 ghost use Rattle.chord_run.specs.Positions.{position_of};
 ghost use Rattle.chord_run.specs.Refusals.{IsLine, IsWithin, PointsAt, rule_front, with_position};
 
 use crate::position::{Position, position_at};
+use chord_io::{Pen, Sink};
 use chord_lexer::lexer::unmarked;
-use itoa::Buffer;
-use std::alloc::{AllocError, Global};
 
 /// Why a source is refused.
 #[derive(Clone, Copy, Debug, PartialEq, Eq)]
@@ -28,60 +28,48 @@ pub enum Refusal {
     Rule(u8, u32),
 }
 
-/// The line of a refusal that points at this byte, with its end.
-pub fn line_of(
-    alloc: Global,
-    source: &[u8],
-    refusal: Refusal,
-    byte: u32,
-) -> Result<Vec<u8>, AllocError>
+/// Writes the line of a refusal that points at this byte, with its end.
+pub fn put_line<K: Sink>(pen: &mut Pen, sink: &mut K, source: &[u8], refusal: Refusal, byte: u32)
     requires { PointsAt source.now refusal byte }
-    ensures { IfOk result (λ line. IsLine source.now refusal line.items) }
+    ensures { (line : List ℕ) × IsLine source.now refusal line
+        × Writes (K.taken sink.old) (K.faults sink.old) pen.old line (K.taken sink.new) (K.faults sink.new) pen.new }
 {
     match refusal {
-        Refusal::Long => Vec::from_slice(alloc, b"refused long\n"),
-        Refusal::Bad(_) => pointing_line(alloc, b"refused byte ", source, byte),
-        Refusal::Syntax(_) => pointing_line(alloc, b"refused syntax ", source, byte),
-        Refusal::Tall(_) => pointing_line(alloc, b"refused tall ", source, byte),
-        Refusal::Rule(rule, _) => rule_line(alloc, rule, source, byte),
+        Refusal::Long => pen.put(sink, b"refused long\n"),
+        Refusal::Bad(_) => put_pointing_line(pen, sink, b"refused byte ", source, byte),
+        Refusal::Syntax(_) => put_pointing_line(pen, sink, b"refused syntax ", source, byte),
+        Refusal::Tall(_) => put_pointing_line(pen, sink, b"refused tall ", source, byte),
+        Refusal::Rule(rule, _) => put_rule_line(pen, sink, rule, source, byte),
     }
 }
 
-/// The line of a refusal by a rule, which has two digits.
-fn rule_line(alloc: Global, rule: u8, source: &[u8], byte: u32) -> Result<Vec<u8>, AllocError>
+/// Writes the line of a refusal by a rule, which has two digits.
+fn put_rule_line<K: Sink>(pen: &mut Pen, sink: &mut K, rule: u8, source: &[u8], byte: u32)
     requires { IsWithin source.now byte }
-    ensures { IfOk result (λ line. line.items ≡ with_position (rule_front rule) (position_of (after_byte_order_mark source.now) byte)) }
+    ensures { Writes (K.taken sink.old) (K.faults sink.old) pen.old (with_position (rule_front rule) (position_of (after_byte_order_mark source.now) byte)) (K.taken sink.new) (K.faults sink.new) pen.new }
 {
-    let mut front = Vec::from_slice(alloc, b"refused C")?;
-    front.push(b'0' + rule / 10)?;
-    front.push(b'0' + rule % 10)?;
-    front.push(b' ')?;
-    pointing_line(alloc, &front, source, byte)
+    let digits = [b'0' + rule / 10, b'0' + rule % 10];
+    pen.put(sink, b"refused C");
+    pen.put(sink, &digits);
+    put_pointing_line(pen, sink, b" ", source, byte);
 }
 
-/// A line that ends with the place of a byte.
-fn pointing_line(
-    alloc: Global,
-    front: &[u8],
-    source: &[u8],
-    byte: u32,
-) -> Result<Vec<u8>, AllocError>
+/// Writes a line that ends with the place of a byte.
+fn put_pointing_line<K: Sink>(pen: &mut Pen, sink: &mut K, front: &[u8], source: &[u8], byte: u32)
     requires { IsWithin source.now byte }
-    ensures { IfOk result (λ line. line.items ≡ with_position front.now (position_of (after_byte_order_mark source.now) byte)) }
+    ensures { Writes (K.taken sink.old) (K.faults sink.old) pen.old (with_position front.now (position_of (after_byte_order_mark source.now) byte)) (K.taken sink.new) (K.faults sink.new) pen.new }
 {
     let place = position_at(unmarked(source), byte as usize);
-    positioned_line(alloc, front, place)
+    put_positioned_line(pen, sink, front, place);
 }
 
-/// A line that ends with a place.
-fn positioned_line(alloc: Global, front: &[u8], place: Position) -> Result<Vec<u8>, AllocError>
-    ensures { IfOk result (λ line. line.items ≡ with_position front.now place) }
+/// Writes a line that ends with a place.
+fn put_positioned_line<K: Sink>(pen: &mut Pen, sink: &mut K, front: &[u8], place: Position)
+    ensures { Writes (K.taken sink.old) (K.faults sink.old) pen.old (with_position front.now place) (K.taken sink.new) (K.faults sink.new) pen.new }
 {
-    let mut buffer = Buffer::new();
-    let mut line = Vec::from_slice(alloc, front)?;
-    line.extend_from_slice(buffer.format(place.line).as_bytes())?;
-    line.extend_from_slice(b":")?;
-    line.extend_from_slice(buffer.format(place.column).as_bytes())?;
-    line.extend_from_slice(b"\n")?;
-    Ok(line)
+    pen.put(sink, front);
+    pen.put_number(sink, place.line as usize);
+    pen.put(sink, b":");
+    pen.put_number(sink, place.column as usize);
+    pen.put(sink, b"\n");
 }

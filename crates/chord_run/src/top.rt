@@ -25,7 +25,7 @@ use crate::engine::{Played, play_code};
 use crate::front::{FrontFault, code_of};
 use crate::load::load_source;
 use crate::output::write_due;
-use crate::refusal::{Refusal, line_of};
+use crate::refusal::{Refusal, put_line};
 use crate::report::{DONE, NO_MEMORY, OTHER_ARGUMENTS, READ_FAULT, REFUSED, Report, WRITE_FAULT};
 use crate::status::status_of_run;
 use crate::words::WordsFault;
@@ -34,7 +34,7 @@ use chord_base::event::Limits;
 use chord_base::journal::Journal;
 use chord_code::code::Code;
 use chord_gen::listing::listing;
-use chord_io::{Failed, ReadFault, Sink, Source, read_all, write_all};
+use chord_io::{Failed, Pen, ReadFault, Sink, Source, read_all, write_all};
 use chord_lists::code_run::may_go_on;
 use chord_pool::Gate;
 use std::alloc::{AllocError, Global};
@@ -92,9 +92,9 @@ pub fn chord<R: Threads + Wait + Sync, S: Source, K: Sink, G: Gate + Sync>(
     // With 2, 3 and 7 nothing is written, and the report has no journal, no refusal and no table.
     ensures silent { IsSilent result.status → IsSilence result (K.taken sink.old) (K.taken sink.new) }
 
-    // The report has the closed table of a run that workers made: as many draws on the table gave a number as the journal has
-    // entries, each entry that the desk which closed it kept stands in the journal, and a desk was split from that one for each
-    // other worker that was asked for. The gate knows of `Main`.
+    // The report has the closed table of a run that workers made, and else none: the entries of the journal were drawn on it, in
+    // this order, and no others, each entry that the desk which closed it kept stands in the journal, a desk was split from that
+    // one for each other worker that was asked for, and no parcel is left. The gate knows of `Main`.
     ensures table { (request : asked.Request) → Requests (argument_bytes arguments.now) request → HasTable G.knows request.one request.workers result.journal result.table }
 
     // Each cause has its status, where the contents of source and sink are specified: what was due and was written whole is
@@ -103,7 +103,8 @@ pub fn chord<R: Threads + Wait + Sync, S: Source, K: Sink, G: Gate + Sync>(
         → AreSpecified request (S.left source.old) (K.taken sink.old)
         → IsExact request (S.left source.old) result (K.taken sink.old) (K.taken sink.new) }
 
-    // Where the arguments are accepted and no I/O call failed, a source has its answer, unless the call ran out of memory.
+    // Where the arguments are accepted, the contents of the source are specified and no I/O call failed, a source has its answer,
+    // unless the call ran out of memory.
     ensures accepted { (request : asked.Request) → Requests (argument_bytes arguments.now) request
         → NoneFailed (S.faults source.old) (S.faults source.new) (K.faults sink.old) (K.faults sink.new)
         → RunsAccepted request.mode (source_contents request (S.left source.old)) result.status }
@@ -124,8 +125,8 @@ fn answer<R: Threads + Wait + Sync, S: Source, K: Sink, G: Gate + Sync>(
     gate: &G,
 ) -> Report
     ensures table { (request : asked.Request) → Requests (argument_bytes arguments.now) request → HasTable G.knows request.one request.workers result.journal result.table }
-    ensures not_accepted { result.status ≡ 2 → AreAccepted (argument_bytes arguments.now) → ⊥ }
-    ensures accepted { (result.status ≡ 2) ⊎ (result.status ≡ 7) ⊎ AreAccepted (argument_bytes arguments.now) }
+    ensures words_refused { result.status ≡ 2 → AreAccepted (argument_bytes arguments.now) → ⊥ }
+    ensures words_accepted { (result.status ≡ 2) ⊎ (result.status ≡ 7) ⊎ AreAccepted (argument_bytes arguments.now) }
     ensures unread { result.status ≡ 2 → S.left source.new ≡ S.left source.old }
     ensures read_fault { result.status ≡ 3 → Rose (S.faults source.old) (S.faults source.new) }
     ensures write_fault { result.status ≡ 5 → Rose (K.faults sink.old) (K.faults sink.new) }
@@ -159,7 +160,7 @@ fn answer_request<R: Threads + Wait + Sync, S: Source, K: Sink, G: Gate + Sync>(
     ensures table { HasTable G.knows request.now.one request.now.workers result.journal result.table }
     ensures answered { IsSilence result (K.taken sink.old) (K.taken sink.new)
         ⊎ AnswersContents request.now (source_contents request.now (S.left source.old)) result (K.taken sink.old) (K.taken sink.new) }
-    ensures not_silent { result.status ≡ 2 → ⊥ }
+    ensures no_words_refused { result.status ≡ 2 → ⊥ }
     ensures read_fault { result.status ≡ 3 → Rose (S.faults source.old) (S.faults source.new) }
     ensures write_fault { result.status ≡ 5 → Rose (K.faults sink.old) (K.faults sink.new) }
     ensures read_told { (result.status ≡ 3) ⊎ (S.faults source.new ≡ S.faults source.old) }
@@ -189,7 +190,7 @@ fn answer_made<R: Threads + Wait + Sync, K: Sink, G: Gate + Sync>(
     ensures table { HasTable G.knows request.now.one request.now.workers result.journal result.table }
     ensures answered { IsSilence result (K.taken sink.old) (K.taken sink.new)
         ⊎ AnswersContents request.now (Some (load_text k)) result (K.taken sink.old) (K.taken sink.new) }
-    ensures not_silent { result.status ≡ 2 → ⊥ }
+    ensures no_words_refused { result.status ≡ 2 → ⊥ }
     ensures no_read_fault { result.status ≡ 3 → ⊥ }
     ensures fault { result.status ≡ 5 → Rose (K.faults sink.old) (K.faults sink.new) }
     ensures told { (result.status ≡ 5) ⊎ (K.faults sink.new ≡ K.faults sink.old) }
@@ -213,7 +214,7 @@ fn answer_read<R: Threads + Wait + Sync, S: Source, K: Sink, G: Gate + Sync>(
     ensures table { HasTable G.knows request.now.one request.now.workers result.journal result.table }
     ensures answered { IsSilence result (K.taken sink.old) (K.taken sink.new)
         ⊎ AnswersContents request.now (S.left source.old) result (K.taken sink.old) (K.taken sink.new) }
-    ensures not_silent { result.status ≡ 2 → ⊥ }
+    ensures no_words_refused { result.status ≡ 2 → ⊥ }
     ensures read_fault { result.status ≡ 3 → Rose (S.faults source.old) (S.faults source.new) }
     ensures write_fault { result.status ≡ 5 → Rose (K.faults sink.old) (K.faults sink.new) }
     ensures read_told { (result.status ≡ 3) ⊎ (S.faults source.new ≡ S.faults source.old) }
@@ -223,7 +224,7 @@ fn answer_read<R: Threads + Wait + Sync, S: Source, K: Sink, G: Gate + Sync>(
     match read_all(alloc, source) {
         Err(ReadFault::Failed) => Report::silent(READ_FAULT),
         Err(ReadFault::Memory) => Report::silent(NO_MEMORY),
-        Err(ReadFault::TooLong) => refuse(alloc, b"", Refusal::Long, 0, sink),
+        Err(ReadFault::TooLong) => refuse(b"", Refusal::Long, 0, sink),
         Ok(bytes) => answer_source(rt, alloc, &bytes, request, sink, gate),
     }
 }
@@ -242,7 +243,7 @@ fn answer_source<R: Threads + Wait + Sync, K: Sink, G: Gate + Sync>(
     ensures table { HasTable G.knows request.now.one request.now.workers result.journal result.table }
     ensures answered { ReportsNoMemory result (K.taken sink.old) (K.taken sink.new)
         ⊎ AnswersSource request.now source.now result (K.taken sink.old) (K.taken sink.new) }
-    ensures not_silent { result.status ≡ 2 → ⊥ }
+    ensures no_words_refused { result.status ≡ 2 → ⊥ }
     ensures no_read_fault { result.status ≡ 3 → ⊥ }
     ensures fault { result.status ≡ 5 → Rose (K.faults sink.old) (K.faults sink.new) }
     ensures told { (result.status ≡ 5) ⊎ (K.faults sink.new ≡ K.faults sink.old) }
@@ -251,7 +252,7 @@ fn answer_source<R: Threads + Wait + Sync, K: Sink, G: Gate + Sync>(
     same_runs();
     match code_of(alloc, source) {
         Err(FrontFault::Memory) => Report::silent(NO_MEMORY),
-        Err(FrontFault::Refused(refusal, byte)) => refuse(alloc, source, refusal, byte, sink),
+        Err(FrontFault::Refused(refusal, byte)) => refuse(source, refusal, byte, sink),
         Ok(code) => answer_code(rt, alloc, &code, request, sink, gate),
     }
 }
@@ -270,7 +271,7 @@ fn answer_code<R: Threads + Wait + Sync, K: Sink, G: Gate + Sync>(
     ensures table { HasTable G.knows request.now.one request.now.workers result.journal result.table }
     ensures answered { ReportsNoMemory result (K.taken sink.old) (K.taken sink.new)
         ⊎ ReportsCode request.now code.now result (K.taken sink.old) (K.taken sink.new) }
-    ensures not_silent { result.status ≡ 2 → ⊥ }
+    ensures no_words_refused { result.status ≡ 2 → ⊥ }
     ensures fault { result.status ≡ 5 → Rose (K.faults sink.old) (K.faults sink.new) }
     ensures told { (result.status ≡ 5) ⊎ (K.faults sink.new ≡ K.faults sink.old) }
 {
@@ -308,27 +309,19 @@ fn list<K: Sink>(code: &Code, sink: &mut K) -> Report
     }
 }
 
-/// Writes the line of a refusal that points at this byte.
-fn refuse<K: Sink>(
-    alloc: Global,
-    source: &[u8],
-    refusal: Refusal,
-    byte: u32,
-    sink: &mut K,
-) -> Report
+/// Writes the line of a refusal that points at this byte. It takes no memory.
+fn refuse<K: Sink>(source: &[u8], refusal: Refusal, byte: u32, sink: &mut K) -> Report
     requires { PointsAt source.now refusal byte }
     ensures table { (result.journal ≡ None) × (result.table ≡ None) }
-    ensures answered { ReportsNoMemory result (K.taken sink.old) (K.taken sink.new)
-        ⊎ ReportsRefusal source.now refusal result (K.taken sink.old) (K.taken sink.new) }
+    ensures answered { ReportsRefusal source.now refusal result (K.taken sink.old) (K.taken sink.new) }
     ensures fault { result.status ≡ 5 → Rose (K.faults sink.old) (K.faults sink.new) }
     ensures told { (result.status ≡ 5) ⊎ (K.faults sink.new ≡ K.faults sink.old) }
 {
-    match line_of(alloc, source, refusal, byte) {
-        Err(_) => Report::silent(NO_MEMORY),
-        Ok(line) => match write_all(sink, &line) {
-            Ok(()) => Report::refused(REFUSED, refusal),
-            Err(Failed) => Report::refused(WRITE_FAULT, refusal),
-        },
+    let mut pen = Pen::new();
+    put_line(&mut pen, sink, source, refusal, byte);
+    match pen.finish(sink) {
+        Ok(()) => Report::refused(REFUSED, refusal),
+        Err(Failed) => Report::refused(WRITE_FAULT, refusal),
     }
 }
 
@@ -346,7 +339,7 @@ fn run<R: Threads + Wait + Sync, K: Sink, G: Gate + Sync>(
     ensures table { HasTable G.knows request.now.one request.now.workers result.journal result.table }
     ensures answered { ReportsNoMemory result (K.taken sink.old) (K.taken sink.new)
         ⊎ ReportsRun request.now (code_program code.now request.now.limits) result (K.taken sink.old) (K.taken sink.new) }
-    ensures not_silent { result.status ≡ 2 → ⊥ }
+    ensures no_words_refused { result.status ≡ 2 → ⊥ }
     ensures fault { result.status ≡ 5 → Rose (K.faults sink.old) (K.faults sink.new) }
     ensures told { (result.status ≡ 5) ⊎ (K.faults sink.new ≡ K.faults sink.old) }
 {

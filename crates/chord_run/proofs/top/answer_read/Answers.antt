@@ -1,4 +1,4 @@
-use Rattle.std.proofs.Common.{refl, inl, inr, arith}
+use Rattle.std.proofs.Common.{refl, inr, arith}
 use Rattle.chord_run.proofs.Answering.{long_answers, source_of}
 use Rattle.chord_run.proofs.top.answer_read.Goals as goal
 
@@ -6,10 +6,7 @@ pub returns-in-Err-TooLong-clause-answered : goal.returns-in-Err-TooLong-clause-
 returns-in-Err-TooLong-clause-answered g c =
     let t = c.in-Err-TooLong.ensures.too_long (rw c.in-Err-TooLong.field-0-is refl) in
     let s = source_of (g.S.Source.left c.args.source.now) _ t.0 t.2 in
-    elim c.refuse.ensures.answered [
-      | inl u ↦ inl (record { silent = inr (inr u.status_is); nothing = u.nothing })
-      | inr r ↦ inr (record { source = s.0; given = s.1; answered = long_answers c.args.request.now _ s.0 c.refuse.result _ _ (s.2 (omega (arith, t.1))) r })
-    ]
+    inr (record { source = s.0; given = s.1; answered = long_answers c.args.request.now _ s.0 c.refuse.result _ _ (s.2 (omega (arith, t.1))) c.refuse.ensures.answered })
 
 pub returns-in-Err-Failed-clause-taken : goal.returns-in-Err-Failed-clause-taken
 returns-in-Err-Failed-clause-taken g c = c.in-Err-Failed.ensures.part

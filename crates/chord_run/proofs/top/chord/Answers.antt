@@ -34,8 +34,8 @@ returns-clause-exactly g c request asks specified = exact _ _ c.answer.result _ 
 
 pub returns-clause-accepted : goal.returns-clause-accepted
 returns-clause-accepted g c request asks none_failed =
-    runs_accepted _ c.answer.result _ _ (record { accepted = c.answer.ensures.not_accepted; read = c.answer.ensures.read_fault; write = c.answer.ensures.write_fault }) c.answer.ensures.headline request asks none_failed
+    runs_accepted _ c.answer.result _ _ (record { words = c.answer.ensures.words_refused; read = c.answer.ensures.read_fault; write = c.answer.ensures.write_fault }) c.answer.ensures.headline request asks none_failed
 
 pub returns-clause-not_accepted : goal.returns-clause-not_accepted
 returns-clause-not_accepted g c request asks none_failed =
-    refuses_others _ c.answer.result _ _ (record { accepted = c.answer.ensures.not_accepted; read = c.answer.ensures.read_fault; write = c.answer.ensures.write_fault }) c.answer.ensures.headline request asks none_failed
+    refuses_others _ c.answer.result _ _ (record { words = c.answer.ensures.words_refused; read = c.answer.ensures.read_fault; write = c.answer.ensures.write_fault }) c.answer.ensures.headline request asks none_failed

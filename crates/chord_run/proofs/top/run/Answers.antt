@@ -8,8 +8,8 @@ returns-in-Ok-is_full-clause-answered g c =
     let p = c.write_run.ensures.played in
     inr (record { journal = c.in-Ok.played.journal; reported = p.reported; refusal = p.refusal; status = due_status c.in-Ok-is_full.full c.in-Ok.played.journal; has_status = c.in-Ok-is_full.ensures.gives; written = p.written })
 
-pub returns-in-Ok-is_full-clause-not_silent : goal.returns-in-Ok-is_full-clause-not_silent
-returns-in-Ok-is_full-clause-not_silent g c two = elim c.write_run.ensures.played.written [
+pub returns-in-Ok-is_full-clause-no_words_refused : goal.returns-in-Ok-is_full-clause-no_words_refused
+returns-in-Ok-is_full-clause-no_words_refused g c two = elim c.write_run.ensures.played.written [
   | inl w ↦ not_two c.in-Ok-is_full.full c.in-Ok.played.journal (sym w.0 ∙ two)
   | inr w ↦ omega (arith, w.0, two)
 ]
