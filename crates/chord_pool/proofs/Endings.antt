@@ -27,7 +27,7 @@ use Rattle.chord_worker.specs.Resting.{IsSameRole, IsSeen, beside_task}
 use Rattle.chord_pool.specs.declared.ending.Alone.{Alone}
 use Rattle.chord_pool.specs.Players.{AreAmong, IsFit, IsSettled, IsUnready, IsCrew, LookedOnce, LookedThrough}
 use Rattle.chord_pool.specs.Ending.{AreAwake, HasComeTo, IsAloneWorker, IsLast, IsRunOver, IsStirred, SawAsleep, SawLimit, HasLookedAlone}
-use Rattle.chord_pool.proofs.Looking.{last_stays, among_more, each_more, plays_since, not_ready, count_ready-append, through_once, through_from}
+use Rattle.chord_pool.proofs.Looking.{last_stays, among_more, each_of_more, plays_since, not_ready, count_ready-append, through_once, through_from}
 
 -- the role of a desk stays over two steps
 pub role_stays : (u v w : View) → IsSameRole u v → IsSameRole v w → IsSameRole u w
@@ -98,7 +98,7 @@ come_on from i u v w low awake was come = record {
   looks = come.looks ++ was.looks;
   seen = come.seen ∙ ap (λ (l : List Look). come.looks ++ l) was.seen ∙ sym (append_assoc come.looks was.looks u.looked.seen);
   among = among_more from i come.looks was.looks low come.among was.among;
-  each = each_more from i come.looks was.looks come.each was.each;
+  each = each_of_more from i come.looks was.looks come.each was.each;
   asleep = saw_more i come.looks was.looks come.asleep;
   before = subst (AreAwake from i) (sym come.seen) (awake_stay from i (i + 1) come.looks v.looked.seen come.among awake);
   unready_looks = let long = length-append come.looks was.looks in let ready = count_ready-append come.looks was.looks in let a = come.unready_looks in let b = was.unready_looks in omega (arith, low, long, ready, a, b);

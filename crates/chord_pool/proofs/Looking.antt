@@ -131,8 +131,8 @@ looked_at_behind i [] ys at = at
 looked_at_behind i (x ∷ xs) ys at = inr (looked_at_behind i xs ys at)
 
 -- looks at each number of some, and then at the next one
-pub each_more : (from i : ℕ) (xs ys : List Look) → AreLookedAt i (i + 1) xs → AreLookedAt from i ys → AreLookedAt from (i + 1) (xs ++ ys)
-each_more from i xs ys one was k above low = dite (ℕ_discrete k i)
+pub each_of_more : (from i : ℕ) (xs ys : List Look) → AreLookedAt i (i + 1) xs → AreLookedAt from i ys → AreLookedAt from (i + 1) (xs ++ ys)
+each_of_more from i xs ys one was k above low = dite (ℕ_discrete k i)
     (λ e. looked_at_first k xs ys (one k (omega (arith, e)) low))
     (λ ne. looked_at_behind k xs ys (was k above (omega (arith, low, ne))))
 
@@ -277,7 +277,7 @@ through_more u v w from i low was one = record {
   looks = one.looks ++ was.looks;
   seen = one.seen ∙ ap (λ l. one.looks ++ l) was.seen ∙ sym (append_assoc one.looks was.looks u.looked.seen);
   among = among_more from i one.looks was.looks low one.among was.among;
-  each = each_more from i one.looks was.looks one.each was.each;
+  each = each_of_more from i one.looks was.looks one.each was.each;
   unready_looks = let long = length-append one.looks was.looks in let ready = count_ready-append one.looks was.looks in let a = one.unready_looks in let b = was.unready_looks in omega (arith, low, long, ready, a, b);
   ready = let ready = count_ready-append one.looks was.looks in let a = one.ready in let b = was.ready in omega (arith, low, ready, a, b);
 }

@@ -1,7 +1,7 @@
 -- Rounds of a player, one after the other, and turns of the first worker alone.
 use Rattle.std.proofs.Common.{◌≡◌, ℕ, List, [], ◌∷◌, ◌++◌, true, refl, sym, ap, ◌∙◌, subst, ⊎_elim, inl, inr}
 use Rattle.chord_roll.specs.declared.card.Card.{Card}
-use Rattle.chord_roll.specs.Cards.{last_read, reads, asks, tells, IsSameCard}
+use Rattle.chord_roll.specs.Cards.{last_read, reads, times_asked, tells, IsSameCard}
 use Rattle.chord_space.specs.declared.space.Space.{Space}
 use Rattle.chord_space.specs.Desks.{view}
 use Rattle.chord_task.specs.declared.parcel.Opened.{Opened as Parcel}
@@ -70,7 +70,7 @@ plays_on_between x y z on same failed card =
     ((card.0 ∙ on.0.0, card.1 ∙ on.0.1), λ sane. subst (λ (w : Worker). IsSameRole (view x.worker.desk) (view w.desk)) (sym same.worker) (on.1 (sym failed ∙ sane)))
 
 -- rounds, and then more of them, after which the player left off and went
-pub left_off_later : (knows : ℕ → Type 0) (s : Space Parcel) (x y z w : Player) → HadRounds knows s x y → HasLeftOff knows s y z → w.worker ≡ z.worker → w.failed ≡ z.failed → began w.card ≡ began z.card → tells w.card ≡ tells z.card → last_read w.card ≡ last_read z.card → reads w.card ≡ reads z.card → asks w.card ≡ asks z.card → HasLeftOff knows s x w
+pub left_off_later : (knows : ℕ → Type 0) (s : Space Parcel) (x y z w : Player) → HadRounds knows s x y → HasLeftOff knows s y z → w.worker ≡ z.worker → w.failed ≡ z.failed → began w.card ≡ began z.card → tells w.card ≡ tells z.card → last_read w.card ≡ last_read z.card → reads w.card ≡ reads z.card → times_asked w.card ≡ times_asked z.card → HasLeftOff knows s x w
 left_off_later knows s x y z w had later same_worker same_end as_often same_told same_read read_as_often asked_as_often = record {
   last = later.last;
   had = more_rounds knows s x y later.last had later.had;

@@ -8,7 +8,7 @@ use Rattle.chord_rule.specs.declared.view.Look.{Look}
 use Rattle.chord_rule.specs.declared.view.View.{View}
 use Rattle.chord_rule.specs.Ways.{LastSeen}
 use Rattle.chord_roll.specs.declared.card.Card.{Card}
-use Rattle.chord_roll.specs.Cards.{counts, ended, hired, last_read, reads, asks, stops, tells, roll_of, IsFirstCard, IsSameCard}
+use Rattle.chord_roll.specs.Cards.{counts, ended, hired, last_read, reads, times_asked, stops, tells, roll_of, IsFirstCard, IsSameCard}
 use Rattle.chord_roll.specs.Roll.{counted_as}
 use Rattle.chord_space.specs.declared.space.Space.{Space}
 use Rattle.chord_space.specs.Desks.{view, space_code, space_limits, program_of}
@@ -226,7 +226,7 @@ HasLooked knows s x y = HasFound knows s x y ⊎ HasFoundNone s x y
 
 -- a player that asked once whether all are to stop, and was told by nobody, went on with its task and counted all the while, without a read of how many do, drew entries of the body on top and at most one firing, plays no other task but a body of which the gate knows, and stands where it stood, or it read once how many are at work and looked for a firing, and if it did not count it began to once for each that it read ready
 pub record HadARound (knows : ℕ → Type 0) (s : Space Parcel) (x y : Player) : Type 0 where
-  pub asked : asks y.card ≡ asks x.card + 1
+  pub asked : times_asked y.card ≡ times_asked x.card + 1
   pub told_nothing : stops x.card ≡ false
   pub went : (t : Task) → x.worker.task ≡ Some t → HasGoneOn (view x.worker.desk).kept t y.worker
   pub plays : (t : Task) → x.worker.task ≡ Some t → PlaysNext knows (view x.worker.desk).kept t y.worker
@@ -288,7 +288,7 @@ HasGone s x y =
 pub record HasLeftOff (knows : ℕ → Type 0) (s : Space Parcel) (x y : Player) : Type 0 where
   pub last : Player
   pub had : HadRounds knows s x last
-  pub asked : asks y.card ≡ asks last.card + 1
+  pub asked : times_asked y.card ≡ times_asked last.card + 1
   pub off : y.failed ≡ false → StillPlays (view last.worker.desk).kept last.worker.task y.worker
   pub began_so : BeganToTheEnd last y
   pub short : HasFailed s last y

@@ -1,6 +1,6 @@
 //! A worker at its thread: it plays what it has, and looks for more.
 ghost use Rattle.std.specs.Prelude.{◌≡◌, ◌≢◌, ◌<◌, ◌≤◌, ◌+◌, ◌-◌, true, false, if◌then◌else◌, min, None, Some, is_some, IfNone, IfSome};
-ghost use Rattle.chord_roll.specs.Cards.{counts, ended, last_read, reads, asks, stops, tells, HasAskedNothing, IsSameCard};
+ghost use Rattle.chord_roll.specs.Cards.{counts, ended, last_read, reads, times_asked, stops, tells, HasAskedNothing, IsSameCard};
 ghost use Rattle.chord_roll.specs.Roll.{counted_as};
 ghost use Rattle.chord_pool.specs.declared.player.Player.{Player as ThePlayer};
 ghost use Rattle.chord_space.specs.Desks.{view};
@@ -227,7 +227,7 @@ impl Player {
         ensures tells { result ≡ false → tells self.new.card ≡ true }
         ensures short { result ≡ false → IsOutOfMemory run.now.space.now self.new.worker }
         ensures reads { reads self.new.card ≡ reads self.old.card }
-        ensures asks { asks self.new.card ≡ asks self.old.card }
+        ensures asks { times_asked self.new.card ≡ times_asked self.old.card }
         ensures went { result ≡ true → (t : TheTask) → self.old.worker.task ≡ Some t → HasGoneOn (view self.old.worker.desk).kept t self.new.worker }
         ensures plays { result ≡ true → (t : TheTask) → self.old.worker.task ≡ Some t → PlaysNext G.knows (view self.old.worker.desk).kept t self.new.worker }
         ensures drew { (t : TheTask) → self.old.worker.task ≡ Some t → DrewAStep t (view self.old.worker.desk).draws (view self.new.worker.desk).draws }
@@ -368,7 +368,7 @@ impl Player {
         ensures stays { counts self.old.card ≡ true → result ≡ true }
         ensures gone { result ≡ false → HasGone run.now.space.now self.old self.new }
         ensures read { reads self.new.card ≡ reads self.old.card + 1 }
-        ensures asks { asks self.new.card ≡ asks self.old.card }
+        ensures asks { times_asked self.new.card ≡ times_asked self.old.card }
     {
         // Read before the look: what is posted later is posted by a worker that is at work now, or by one of those whose work
         // this look finds.
@@ -434,7 +434,7 @@ impl Player {
         ensures last { result ≡ false → BeganToTheEnd self.old self.new }
         ensures short { result ≡ false → HasFailed run.now.space.now self.old self.new }
         ensures gone { result ≡ false → self.new.failed ≡ false → HasGone run.now.space.now self.old self.new }
-        ensures asked { asks self.new.card ≡ asks self.old.card + 1 }
+        ensures asked { times_asked self.new.card ≡ times_asked self.old.card + 1 }
         ensures untold { result ≡ true → stops self.new.card ≡ false }
     {
         if self.card.has_stopped() {

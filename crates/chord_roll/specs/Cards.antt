@@ -24,8 +24,8 @@ abbrev pub reads : Card → ℕ
 reads c = c.seat.me.0.reads
 
 -- how often its worker asked whether all are to stop
-abbrev pub asks : Card → ℕ
-asks c = c.seat.me.0.asks
+abbrev pub times_asked : Card → ℕ
+times_asked c = c.seat.me.0.asks
 
 -- whether its worker told all to stop, or read that they are to
 abbrev pub stops : Card → Bool
@@ -53,4 +53,4 @@ HasReadNothing c d = IsSameCard c d × (last_read d ≡ last_read c) × (reads d
 
 -- the same card, whose worker has read no number in between, and has not asked whether all are to stop
 abbrev pub HasAskedNothing : Card → Card → Type 0
-HasAskedNothing c d = IsSameCard c d × (last_read d ≡ last_read c) × (reads d ≡ reads c) × (asks d ≡ asks c)
+HasAskedNothing c d = IsSameCard c d × (last_read d ≡ last_read c) × (reads d ≡ reads c) × (times_asked d ≡ times_asked c)

@@ -40,7 +40,7 @@ pub struct Card {
 
 impl Card {
     ghost use Rattle.chord_roll.specs.Roll.{counted_as};
-    ghost use Rattle.chord_roll.specs.Cards.{counts, ended, hired, last_read, reads, asks, stops, tells, roll_of, IsFirstCard, IsSameCard, HasReadNothing, HasAskedNothing};
+    ghost use Rattle.chord_roll.specs.Cards.{counts, ended, hired, last_read, reads, times_asked, stops, tells, roll_of, IsFirstCard, IsSameCard, HasReadNothing, HasAskedNothing};
 
     /// A new roll with one card, which does not count.
     ///
@@ -48,7 +48,7 @@ impl Card {
     ///
     /// `AllocError` where no memory is found.
     pub fn first(alloc: Global) -> Result<Card, AllocError>
-        ensures { IfOk result (λ card. IsFirstCard card × (hired card ≡ 0) × (counts card ≡ false) × (stops card ≡ false) × (ended card ≡ 0) × (last_read card ≡ None) × (reads card ≡ 0) × (asks card ≡ 0)) }
+        ensures { IfOk result (λ card. IsFirstCard card × (hired card ≡ 0) × (counts card ≡ false) × (stops card ≡ false) × (ended card ≡ 0) × (last_read card ≡ None) × (reads card ≡ 0) × (times_asked card ≡ 0)) }
     {
         let (table, seat) = Table::of_words(alloc, &[0, 0], &())?;
         let roll = Arc::new(alloc, table)?;
@@ -69,7 +69,7 @@ impl Card {
         ensures same { HasAskedNothing self.old self.new × (counts self.new ≡ counts self.old) × (stops self.new ≡ stops self.old) }
         ensures ended { ended self.new ≡ ended self.old }
         ensures tells { tells self.new ≡ tells self.old }
-        ensures other { IfOk result (λ card. (hired self.new ≡ hired self.old + 1) × (roll_of card ≡ roll_of self.old) × (counts card ≡ false) × (stops card ≡ false) × (ended card ≡ 0) × (last_read card ≡ None) × (reads card ≡ 0) × (asks card ≡ 0)) }
+        ensures other { IfOk result (λ card. (hired self.new ≡ hired self.old + 1) × (roll_of card ≡ roll_of self.old) × (counts card ≡ false) × (stops card ≡ false) × (ended card ≡ 0) × (last_read card ≡ None) × (reads card ≡ 0) × (times_asked card ≡ 0)) }
     {
         let roll = Arc::clone(&self.roll)?;
         let seat = self.roll.shared.split_seat::<Hire>(&mut self.seat);
@@ -123,7 +123,7 @@ impl Card {
         ensures tells { tells self.new ≡ tells self.old }
         ensures read { last_read self.new ≡ Some result }
         ensures reads { reads self.new ≡ reads self.old + 1 }
-        ensures asks { asks self.new ≡ asks self.old }
+        ensures asks { times_asked self.new ≡ times_asked self.old }
         ensures own { counts self.old ≡ true → 0 < result }
     {
         self.roll.shared.load::<Read>(&mut self.seat, COUNT)
@@ -157,7 +157,7 @@ impl Card {
         ensures same { HasReadNothing self.old self.new × (hired self.new ≡ hired self.old) × (counts self.new ≡ counts self.old) }
         ensures ended { ended self.new ≡ ended self.old }
         ensures tells { tells self.new ≡ tells self.old }
-        ensures asks { asks self.new ≡ asks self.old + 1 }
+        ensures asks { times_asked self.new ≡ times_asked self.old + 1 }
         ensures told { result ≡ true → stops self.new ≡ true }
         ensures not_yet { result ≡ false → (stops self.old ≡ false) × (stops self.new ≡ false) }
     {
