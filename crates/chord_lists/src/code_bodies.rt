@@ -133,9 +133,9 @@ fn next_over(tasks: &[Task], over: &mut Vec<u32>) -> Option<u32>
     None
 }
 
-/// The place of a task, in two bytes.
+/// The place of a task as `homes` keeps it, in two bytes.
 #[inline(always)]
-fn place_of(at: u32) -> u16
+fn as_home(at: u32) -> u16
     requires { at < 65536 }
     ensures { result ≡ at }
 {
@@ -165,7 +165,7 @@ fn make(
     let task = &mut bodies.tasks[at as usize];
     let sent = task.turn(alloc, code, limits, number, &mut bodies.entries)?;
     keep_over(task, &mut bodies.over, at)?;
-    bodies.homes.push(place_of(at))?;
+    bodies.homes.push(as_home(at))?;
     Ok(turn_to(sent))
 }
 
@@ -351,7 +351,7 @@ fn begin_at(
         &mut bodies.entries,
     )?;
     put_ready(&mut bodies.ready, at)?;
-    bodies.homes.push(place_of(at))?;
+    bodies.homes.push(as_home(at))?;
     Ok(())
 }
 
@@ -404,7 +404,7 @@ fn begin_alone(
     )?;
     bodies.tasks.push(task)?;
     bodies.ready.push(at)?;
-    bodies.homes.push(place_of(at))?;
+    bodies.homes.push(as_home(at))?;
     Ok(())
 }
 
