@@ -134,7 +134,7 @@ module _ (s : Space Parcel) (w w' : Worker) (m k : ℕ) (minds : Minds s w m k) 
   pub still_minds : IsOnlyLooks (view w.desk) (view w'.desk) → Minds s w' m k
   still_minds l = subst (λ (x : Worker). Minds s x m k) (sym rest) record {
     desk = same.0 ∙ minds.desk;
-    told = minds.told;
+    untold = minds.untold;
     room = looks_spent (view w.desk) (view w'.desk) l ∙ minds.room;
     free = looks_free (view w.desk) (view w'.desk) l minds.free;
     duty = l.duties ∙ minds.duty;
@@ -151,7 +151,7 @@ module _ (s : Space Parcel) (w w' : Worker) (m k : ℕ) (minds : Minds s w m k) 
     pub minded : IsAtRest s w'
     minded = subst (IsAtRest s) (sym rest) record {
       desk = same.0 ∙ minds.desk;
-      told = minds.told ∙ sym (spent ∙ minds.room);
+      told = minds.untold ∙ sym (spent ∙ minds.room);
       free = subst IsHandFree (sym laid) (let f = looks_free (view w.desk) u l minds.free in record { claims = f.claims; flight = f.flight; fresh = f.fresh });
       duties = λ e. ap (λ (z : View). z.duties) laid ∙ no_duty_left u.duties m k (l.duties ∙ minds.duty);
       memory = subst (λ (b : Bool). IsInMemory (space_code s) (space_limits s) (view w'.desk).kept b w.task) (sym (spent ∙ minds.room))
@@ -179,7 +179,7 @@ module _ (s : Space Parcel) (w : Worker) (m method : ℕ) (o : Object) (minds : 
   pub found_fired : (list : Vec Entry Global) → list.items ≡ w.draws.items → HasFired s (record w { desk = d; draws = list }) (view w.desk) o chord ms f qs
   found_fired list same_list = record {
     desk = same.0 ∙ minds.desk;
-    told = minds.told;
+    untold = minds.untold;
     room = minds.room;
     free = minds.free;
     memory = minds.memory;

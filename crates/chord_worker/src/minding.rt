@@ -53,7 +53,7 @@ impl Worker {
     /// There is no memory: what the worker plays is not played on.
     #[inline(never)]
     fn drop_task(&mut self)
-        ensures rest { self.new ≡ record self.old { task = self.new.task } }
+        ensures frame { self.new ≡ record self.old { task = self.new.task } }
         ensures none { self.new.task ≡ None }
     {
         match self.task.take() {

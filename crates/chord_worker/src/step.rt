@@ -65,7 +65,7 @@ impl Worker {
     /// A task that may not go on. Where no body is left in it and none is in stock, it goes there: its memory serves for the next body.
     #[inline(never)]
     pub(crate) fn retire(&mut self, task: Apart<Task>)
-        ensures rest { self.new ≡ record self.old { spare = self.new.spare } }
+        ensures frame { self.new ≡ record self.old { spare = self.new.spare } }
         ensures same { (self.new.desk ≡ self.old.desk) × (self.new.task ≡ self.old.task) × (self.new.spent ≡ self.old.spent) }
         ensures lists { (self.new.draws ≡ self.old.draws) × (self.new.taken ≡ self.old.taken) }
         ensures spare { self.old.spare ≢ None → self.new.spare ≡ self.old.spare }

@@ -39,7 +39,7 @@ returns-in-Left-clause-over g c = λ e.
           (λ t. minded c.args.space.now c.args.self.now w' _ _ c.requires.minds c.find.ensures.desk refl refl (read_so v m (a_cell.Woken t.0) t.1) (cell_looks v m (record { cell = a_cell.Woken t.0; next = t.1 })) t.2)
           (λ t. minded c.args.space.now c.args.self.now w' _ _ c.requires.minds c.find.ensures.desk refl refl t.0 (looks_on _ _ _ (cell_looks v m (record { cell = a_cell.Pending; next = t.1.next })) t.1.sought.grows.only) t.2)
           c.in-Left.ensures.finding,
-      λ z. let k : true ≡ false = sym z ∙ c.requires.minds.told in absurd (cc),
+      λ z. let k : true ≡ false = sym z ∙ c.requires.minds.untold in absurd (cc),
     )
 
 pub returns-in-Taken-clause-over : goal.returns-in-Taken-clause-over
@@ -48,7 +48,7 @@ returns-in-Taken-clause-over g c = λ e.
     let m = c.args.message.number in
     let t = c.in-Taken.ensures.finding in (
       minded c.args.space.now c.args.self.now (record c.args.self.now { desk = c.find.new.desk }) _ _ c.requires.minds c.find.ensures.desk refl refl (read_so v m a_cell.Consumed t.0) (cell_looks v m (record { cell = a_cell.Consumed; next = t.0 })) t.1,
-      λ z. let k : true ≡ false = sym z ∙ c.requires.minds.told in absurd (cc),
+      λ z. let k : true ≡ false = sym z ∙ c.requires.minds.untold in absurd (cc),
     )
 
 pub returns-in_ok-over-in-Match-clause-minded : goal.returns-in_ok-over-in-Match-clause-minded

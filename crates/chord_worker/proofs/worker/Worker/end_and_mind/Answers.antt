@@ -59,7 +59,7 @@ returns-in_ok-mind-in-Some-clause-over g c =
     let noted = noted_here g (goal.at.returns-in_ok-mind-in-Some-clause-over g c).After-draw_own c.in-Some.is c.in_ok-draw_own.ensures.noted in
     let r = c.in_ok-mind-in-Some.ensures.over in
     let stock = c.retire.ensures.stock (space_code s) (space_limits s) noted.task r.0.stock in (
-      subst (IsAtRest s) (sym c.retire.ensures.rest) (rest_stocked s c.mind.new.self c.retire.new.self.spare stock r.0),
+      subst (IsAtRest s) (sym c.retire.ensures.frame) (rest_stocked s c.mind.new.self c.retire.new.self.spare stock r.0),
       λ e. c.retire.ensures.same.1 ∙ r.1 (sym c.retire.ensures.same.2 ∙ e),
     )
 

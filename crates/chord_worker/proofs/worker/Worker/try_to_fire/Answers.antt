@@ -63,11 +63,11 @@ returns-in-Err-Lost-clause-lost g c = λ e. (_, rw c.in-Err-Lost.field-0-is at c
 
 pub returns-then-not-reserve_draw-clause-short : goal.returns-then-not-reserve_draw-clause-short
 returns-then-not-reserve_draw-clause-short g c =
-    subst (IsOutOfMemory c.args.space.now) (sym c.drop_task.ensures.rest)
+    subst (IsOutOfMemory c.args.space.now) (sym c.drop_task.ensures.frame)
     (out_of_memory c.args.space.now c.args.self.now _ _ c.requires.minds c.reserve_draw.new.draws c.reserve_draw.ensures.items c.drop_task.new.self.task c.drop_task.ensures.none)
 
 pub returns-then-not-reserve_draw-clause-drew : goal.returns-then-not-reserve_draw-clause-drew
-returns-then-not-reserve_draw-clause-drew g c = inl (ap (λ (w : Worker). (view w.desk).draws) c.drop_task.ensures.rest)
+returns-then-not-reserve_draw-clause-drew g c = inl (ap (λ (w : Worker). (view w.desk).draws) c.drop_task.ensures.frame)
 
 pub returns-in-Ok-clause-drew : goal.returns-in-Ok-clause-drew
 returns-in-Ok-clause-drew g c =
