@@ -111,6 +111,7 @@ impl Worker {
         ensures over { OnOk result (self.new.spent ≡ true → self.new.task ≡ None) }
         ensures went { OnOk result (HasGoneOn (view self.old.desk).kept task self.new) }
         ensures plays { OnOk result (PlaysNoOther task self.new.task) }
+        ensures stays { OnOk result (self.old.spare ≢ None → self.new.spare ≡ self.old.spare) }
         ensures stocked { OnOk result ((e : AnEnd) → asked.old ≡ Some (Ask.End e) → vec_len task.below ≡ 0 → (self.new.spare ≢ None) ⊎ (self.new.spent ≡ true)) }
         ensures bare { OnOk result (OwnsNothing asked.new) }
         ensures drew { DrewAStep task (view self.old.desk).draws (view self.new.desk).draws }
