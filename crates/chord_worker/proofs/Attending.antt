@@ -129,12 +129,12 @@ module _ (v w : View) (l : IsOnlyLooks v w) where
 pub role_on : (u v w : View) → IsSameRole u v → IsSameRole v w → IsSameRole u w
 role_on u v w a b = record { first = b.first ∙ a.first; lent = b.lent ∙ a.lent; splits = b.splits ∙ a.splits; drawn = λ e. b.drawn (a.drawn e) }
 
-module _ (s : Space Parcel) (w w' : Worker) (m k : ℕ) (minds : Minds s w m k) (same : IsSameDesk w.desk w'.desk) (rest : w' ≡ record w { desk = w'.desk; draws = w'.draws }) (lists : w'.draws.items ≡ w.draws.items) where
+module _ (s : Space Parcel) (w w' : Worker) (m k : ℕ) (minds : Minds s w m k) (same : IsSameDesk w.desk w'.desk) (rest : w' ≡ record w { desk = w'.desk }) where
   -- after looks the worker still minds the message
   pub still_minds : IsOnlyLooks (view w.desk) (view w'.desk) → Minds s w' m k
   still_minds l = subst (λ (x : Worker). Minds s x m k) (sym rest) record {
     desk = same.0 ∙ minds.desk;
-    told = minds.told;
+    untold = minds.untold;
     room = looks_spent (view w.desk) (view w'.desk) l ∙ minds.room;
     free = looks_free (view w.desk) (view w'.desk) l minds.free;
     duty = l.duties ∙ minds.duty;
@@ -143,7 +143,7 @@ module _ (s : Space Parcel) (w w' : Worker) (m k : ℕ) (minds : Minds s w m k) 
     stock = minds.stock;
     spare = minds.spare;
     is_stock = minds.is_stock;
-    listed = lists_same w.draws.items w'.draws.items w.taken.items w.taken.items (view w.desk).draws (view w'.desk).draws lists refl (looks_draws (view w.desk) (view w'.desk) l) minds.listed;
+    listed = lists_same w.draws.items w.draws.items w.taken.items w.taken.items (view w.desk).draws (view w'.desk).draws refl refl (looks_draws (view w.desk) (view w'.desk) l) minds.listed;
   }
 
   module _ (u : View) (l : IsOnlyLooks (view w.desk) u) (laid : view w'.desk ≡ rested u m) where
@@ -151,14 +151,14 @@ module _ (s : Space Parcel) (w w' : Worker) (m k : ℕ) (minds : Minds s w m k) 
     pub minded : IsAtRest s w'
     minded = subst (IsAtRest s) (sym rest) record {
       desk = same.0 ∙ minds.desk;
-      told = minds.told ∙ sym (spent ∙ minds.room);
+      told = minds.untold ∙ sym (spent ∙ minds.room);
       free = subst IsHandFree (sym laid) (let f = looks_free (view w.desk) u l minds.free in record { claims = f.claims; flight = f.flight; fresh = f.fresh });
       duties = λ e. ap (λ (z : View). z.duties) laid ∙ no_duty_left u.duties m k (l.duties ∙ minds.duty);
       memory = subst (λ (b : Bool). IsInMemory (space_code s) (space_limits s) (view w'.desk).kept b w.task) (sym (spent ∙ minds.room))
           (subst (λ (es : List Entry). IsInMemory (space_code s) (space_limits s) es false w.task) (sym (ap (λ (z : View). z.kept) laid ∙ looks_kept (view w.desk) u l)) minds.memory);
       goes_on = minds.goes_on;
       stock = subst (IsStock (space_code s) (space_limits s)) (sym minds.spare) minds.is_stock;
-      listed = lists_same w.draws.items w'.draws.items w.taken.items w.taken.items (view w.desk).draws (view w'.desk).draws lists refl (ap (λ (z : View). z.draws) laid ∙ looks_draws (view w.desk) u l) minds.listed;
+      listed = lists_same w.draws.items w.draws.items w.taken.items w.taken.items (view w.desk).draws (view w'.desk).draws refl refl (ap (λ (z : View). z.draws) laid ∙ looks_draws (view w.desk) u l) minds.listed;
     }
       where
         spent : (view w'.desk).spent ≡ (view w.desk).spent
@@ -176,10 +176,10 @@ module _ (s : Space Parcel) (w w' : Worker) (m k : ℕ) (minds : Minds s w m k) 
 module _ (s : Space Parcel) (w : Worker) (m method : ℕ) (o : Object) (minds : Minds s w m (key o method)) (u : View) (chord : ℕ) (ms : List ℕ) (xs : List (Option ℕ)) (found : IsMatch (program_of s) s.events u (view w.desk) m o method chord ms xs)
     (d : Desk Parcel) (same : IsSameDesk w.desk d) (f : ℕ) (qs : List Parcel) (fired : IsFired entries_of arguments_of (λ q. IsParcelOf q (space_code s) (space_limits s)) (program_of s) s.events (view w.desk) (view d) o chord ms f qs) where
   -- what was found was fired
-  pub found_fired : (list : Vec Entry Global) → list.items ≡ w.draws.items → HasFired s (record w { desk = d; draws = list }) (view w.desk) o chord ms f qs
-  found_fired list same_list = record {
+  pub found_fired : HasFired s (record w { desk = d }) (view w.desk) o chord ms f qs
+  found_fired = record {
     desk = same.0 ∙ minds.desk;
-    told = minds.told;
+    untold = minds.untold;
     room = minds.room;
     free = minds.free;
     memory = minds.memory;
@@ -187,7 +187,7 @@ module _ (s : Space Parcel) (w : Worker) (m method : ℕ) (o : Object) (minds : 
     stock = minds.stock;
     spare = minds.spare;
     is_stock = minds.is_stock;
-    listed = lists_same w.draws.items list.items w.taken.items w.taken.items (view w.desk).draws (view w.desk).draws same_list refl refl minds.listed;
+    listed = minds.listed;
     duties = ap (λ (z : View). z.duties) fired.view ∙ duty_goes (view w.desk).duties m (key o method) ms minds.duty found.own;
     fired = fired;
   }
@@ -219,6 +219,22 @@ module _ (s : Space Parcel) (w w' : Worker) (m k : ℕ) (minds : Minds s w m k) 
     stock = subst (IsStock (space_code s) (space_limits s)) (sym (stock ∙ minds.spare)) minds.is_stock;
     listed = lists_same w.draws.items w'.draws.items w.taken.items w'.taken.items (view w.desk).draws (view w'.desk).draws draws taken (ap (λ (z : View). z.draws) view_is) minds.listed;
   }
+
+-- a worker that minds a message still does where its list has room for more
+pub minds_roomier : (s : Space Parcel) (w : Worker) (m k : ℕ) → Minds s w m k → (list : Vec Entry Global) → list.items ≡ w.draws.items → Minds s (record w { draws = list }) m k
+minds_roomier s w m k minds list items = record {
+  desk = minds.desk;
+  untold = minds.untold;
+  room = minds.room;
+  free = minds.free;
+  duty = minds.duty;
+  memory = minds.memory;
+  goes_on = minds.goes_on;
+  stock = minds.stock;
+  spare = minds.spare;
+  is_stock = minds.is_stock;
+  listed = lists_same w.draws.items list.items w.taken.items w.taken.items (view w.desk).draws (view w.desk).draws items refl refl minds.listed;
+}
 
 -- a worker that minds a message, and has no room for the entry of a firing, is out of memory once its task is laid off
 pub out_of_memory : (s : Space Parcel) (w : Worker) (m k : ℕ) → Minds s w m k → (list : Vec Entry Global) → list.items ≡ w.draws.items → (x : Option Task) → x ≡ None → IsOutOfMemory s (record w { draws = list; task = x })

@@ -197,7 +197,7 @@ module _ (s : Space Parcel) (w : Worker) (v : View) (o : Object) (k : ℕ) (ms :
   pub has_begun : (stock : Option Task) → IsStock (space_code s) (space_limits s) stock → (t u : Task) → Fits t → IsTaskOf (space_code s) (space_limits s) u → (view_of u).past ≡ newest ∷ (view_of t).past → (view_of u).top ≡ Some f → (list : Vec Entry Global) → AddsOne t.past u.past w.draws.items list.items → HasBegun s (record w { spare = stock; draws = list }) v f u
   has_begun stock is_stock t u fits is past top list one = record {
     desk = fired.desk;
-    told = fired.told;
+    untold = fired.untold;
     room = fired.room;
     free = fired.free;
     memory = fired.memory;
@@ -296,7 +296,7 @@ module _ (s : Space Parcel) (w : Worker) (v : View) (f : ℕ) (t : Task) (b : Ha
       let m : IsInMemory (space_code s) (space_limits s) v.kept false None = subst (IsInMemory (space_code s) (space_limits s) v.kept false) none b.memory in
       record {
         desk = b.desk;
-        told = b.told ∙ sym (ap (λ (z : View). z.spent) b.seen ∙ b.room);
+        told = b.untold ∙ sym (ap (λ (z : View). z.spent) b.seen ∙ b.room);
         free = record { claims = ap (λ (z : View). z.claims) b.seen; flight = ap (λ (z : View). z.flight) b.seen ∙ b.free.flight; fresh = ap (λ (z : View). z.fresh) b.seen ∙ b.free.fresh };
         duties = λ e. b.duties;
         memory = record {
@@ -319,7 +319,7 @@ module _ (s : Space Parcel) (w : Worker) (v : View) (f : ℕ) (t : Task) (b : Ha
     pub rest_posted : IsAtRest s (record w { desk = d })
     rest_posted = record {
       desk = same.0 ∙ b.desk;
-      told = b.told ∙ sym spent;
+      told = b.untold ∙ sym spent;
       free = record {
         claims = ap (λ (z : View). z.claims) post ∙ ap (λ (z : View). z.claims) b.seen;
         flight = ap (λ (z : View). z.flight) post ∙ ap (λ (z : View). z.flight) b.seen ∙ b.free.flight;

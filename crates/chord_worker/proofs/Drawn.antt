@@ -1,6 +1,6 @@
 -- What a worker draws in a step: an ask of the body on top, the end of this body, and a firing.
 use Rattle.std.specs.Prelude.{IfNone, IfSome}
-use Rattle.std.proofs.Common.{◌≡◌, ℕ, true, false, List, ◌∷◌, Option, Some, None, refl, sym, ap, ◌∙◌, subst, ◌⊎◌, inr}
+use Rattle.std.proofs.Common.{◌≡◌, ◌≢◌, ℕ, true, false, List, ◌∷◌, Option, Some, None, refl, sym, ap, ◌∙◌, subst, ◌⊎◌, inr}
 use Rattle.chord_base.specs.declared.event.Entry.{Entry}
 use Rattle.chord_base.specs.declared.event.Limits.{Limits}
 use Rattle.chord_base.specs.declared.event.What.{What}
@@ -22,8 +22,10 @@ use Rattle.chord_task.specs.Turning.{HasCome}
 use Rattle.chord_vm.specs.declared.ask.Ask.{Ask}
 use Rattle.chord_vm.specs.Frames.{what_of_ask}
 use Rattle.chord_worker.specs.Playing.{IsNotedAs, IsNotedFrom, HeardOfLimit}
-use Rattle.chord_worker.specs.Stepping.{DrewFiring, DrewEnd, DrewAStep}
+use Rattle.chord_worker.specs.declared.worker.Worker.{Worker}
+use Rattle.chord_worker.specs.Stepping.{DrewFiring, DrewEnd, DrewAStep, StillStocked}
 use Rattle.chord_worker.proofs.Given.{value_of_some, where_none}
+use Rattle.chord_worker.proofs.Stocked.{stocked_since}
 
 -- a firing was drawn
 pub fired_drew : (keeps : Parcel → Type 0) (p : Program) (n : ℕ) (v w : View) (o : Object) (chord : ℕ) (ms : List ℕ) (f : ℕ) (qs : List Parcel) → IsFired entries_of arguments_of keeps p n v w o chord ms f qs → DrewFiring v.draws w.draws
@@ -62,6 +64,11 @@ module _ (s : Space Parcel) (v u : View) (asked : Option Ask) (task task' : Task
   -- it was drawn, and what follows from it
   pub step_drew : (es now : List Entry) → es ≡ u.draws → ((b : ℕ) → (is_end (what_of_ask a) ≡ false → (view_of task').top ≡ Some b) → DrewEnd b es now) → DrewAStep task v.draws now
   step_drew es now same drew = ask_drew (space_code s) (space_limits s) v u t task' n (what_of_ask a) was_noted task came.view es now same (drew was_noted.body was_noted.top)
+
+  -- the stock after it, and after what follows from it
+  pub step_stocked : (es : List Entry) (x y : Option Task) (w : Worker) → es ≡ u.draws → (x ≢ None → y ≡ x) → StillStocked es y w → StillStocked v.draws x w
+  step_stocked es x y w same stays still =
+      stocked_since v.draws es x y w stays still (entry n was_noted.body (what_of_ask a)) (same ∙ noted_draws (space_code s) (space_limits s) v u t task' n (what_of_ask a) was_noted)
 
   -- it was the end of the body on top, and what follows from the message before it
   pub last_drew : (b : ℕ) → (view_of t).top ≡ Some b → is_end (what_of_ask a) ≡ true → (now : List Entry) → DrewFiring u.draws now → DrewEnd b v.draws now

@@ -22,7 +22,7 @@ module _ (s : Space Parcel) (w : Worker) (t : Task) (m k : ℕ) (minds : Minds s
     pub ended_minds : IsNoMessage what → is_ready_of t' ≡ false → w'.spent ≡ w.spent → w'.spare ≡ w.spare → w'.task ≡ None → DrawsOne (view w.desk).draws (view w'.desk).draws w.draws.items w'.draws.items → w'.taken.items ≡ w.taken.items → Minds s w' m k
     ended_minds plain over spent spare task one taken = record {
       desk = same.0 ∙ minds.desk;
-      told = spent ∙ minds.told;
+      untold = spent ∙ minds.untold;
       room = ap (λ (z : View). z.spent) noted.drawn ∙ minds.room;
       free = subst IsHandFree (sym noted.drawn) (record { claims = minds.free.claims; flight = minds.free.flight; fresh = plain n (view w.desk).fresh ∙ minds.free.fresh });
       duty = ap (λ (z : View). messages_and_bags z.duties) noted.drawn ∙ minds.duty;

@@ -82,7 +82,7 @@ module _ (s : Space Parcel) (w : Worker) (t : Task) (r : IsAtRest s (record w { 
     pub now_minds : IsInMemory (space_code s) (space_limits s) (view w'.desk).kept (view w.desk).spent w'.task → MayContinue w'.task → DrawsOne (view w.desk).draws v.draws w.draws.items w'.draws.items → w'.taken.items ≡ w.taken.items → Minds s w' n k
     now_minds memory goes_on one taken = let x = in_stock (space_code s) (space_limits s) w.spare r.stock stock in record {
       desk = same.0 ∙ r.desk;
-      told = spent ∙ r.told ∙ room;
+      untold = spent ∙ r.told ∙ room;
       room = sent.spent ∙ ap (λ (z : View). z.spent) noted.drawn ∙ room;
       free = record {
         claims = sent.claims ∙ ap (λ (z : View). z.claims) noted.drawn ∙ r.free.claims;

@@ -63,7 +63,7 @@ pub record FitsFiring (code : Parts) (limits : Limits) (before now : List Entry)
 -- the task has the body of the firing f on top, whose entry the worker has listed, and what the desk keeps beside the task's past is what it kept before
 pub record HasBegun (s : Space Parcel) (w : Worker) (v : View) (f : ℕ) (t : Task) : Type 0 where
   pub desk : IsDeskOf s w.desk
-  pub told : w.spent ≡ false
+  pub untold : w.spent ≡ false
   pub room : v.spent ≡ false
   pub free : IsHandFree v
   pub memory : IsInMemory (space_code s) (space_limits s) v.kept false w.task

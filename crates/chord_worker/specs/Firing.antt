@@ -14,7 +14,7 @@ use Rattle.chord_worker.specs.Resting.{IsHandFree, IsInMemory, MayContinue, IsSt
 -- before the firing the worker had nothing in hand but the message that it minded, and its lists had what its desk drew; the firing was drawn, and none of its duties is left
 pub record HasFired (s : Space Parcel) (w : Worker) (v : View) (object : Object) (chord : ℕ) (members : List ℕ) (f : ℕ) (parcels : List Parcel) : Type 0 where
   pub desk : IsDeskOf s w.desk
-  pub told : w.spent ≡ false
+  pub untold : w.spent ≡ false
   pub room : v.spent ≡ false
   pub free : IsHandFree v
   pub memory : IsInMemory (space_code s) (space_limits s) v.kept false w.task

@@ -28,7 +28,7 @@ pub record IsSentOff (v w : View) (m k : ℕ) (es : List Entry) : Type 0 where
 -- the worker minds the message m in the bag k: it is at rest but for its duty on m, and has a task in stock
 pub record Minds (s : Space Parcel) (w : Worker) (m k : ℕ) : Type 0 where
   pub desk : IsDeskOf s w.desk
-  pub told : w.spent ≡ false
+  pub untold : w.spent ≡ false
   pub room : (view w.desk).spent ≡ false
   pub free : IsHandFree (view w.desk)
   pub duty : messages_and_bags (view w.desk).duties ≡ (m, k) ∷ []

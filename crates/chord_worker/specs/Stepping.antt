@@ -1,5 +1,5 @@
 -- What a step leaves behind: an entry that the desk keeps, a task that is away with its call, or the word that the limit is reached.
-use Rattle.std.specs.Prelude.{◌≡◌, ◌≢◌, ◌⊎◌, ◌<◌, ℕ, true, false, List, [], ◌∷◌, Option, Some, None}
+use Rattle.std.specs.Prelude.{◌≡◌, ◌≢◌, ◌⊎◌, ◌<◌, ℕ, true, false, List, [], ◌∷◌, ◌++◌, Option, Some, None}
 use Rattle.chord_base.specs.declared.event.Entry.{Entry}
 use Rattle.chord_base.specs.declared.event.What.TheVariants.{Begun}
 use Rattle.chord_base.specs.Printed.{is_end}
@@ -79,3 +79,15 @@ DrewEnd b before now = DrewFiring before now ⊎ ((e : Entry) × (e.body ≡ b) 
 -- in a step of the task its desk, which had drawn these entries, drew nothing, or an entry of the body on top, then at most the end of this body, then at most one firing, and nothing else
 abbrev pub DrewAStep : Task → List Entry → List Entry → Type 0
 DrewAStep t before now = (now ≡ before) ⊎ ((e : Entry) × ((view_of t).top ≡ Some e.body) × DrewEnd e.body (e ∷ before) now)
+
+-- after these entries a desk drew others, and last a firing, with which its body begins
+pub record DrewFiringLast (before now : List Entry) : Type 0 where
+  pub others : List Entry
+  pub fired : Entry
+  pub drawn : now ≡ fired ∷ (others ++ before)
+  pub is_firing : IsFiringEntry (Some fired.what)
+  pub begins : fired.body ≡ fired.number
+
+-- what the worker had in stock is there still, or its desk, which had drawn these entries, drew a firing last
+abbrev pub StillStocked : List Entry → Option Task → Worker → Type 0
+StillStocked before x w = x ≢ None → (w.spare ≡ x) ⊎ DrewFiringLast before (view w.desk).draws

@@ -10,7 +10,7 @@ ghost use Rattle.chord_task.specs.Standing.{view_of};
 ghost use Rattle.chord_task.specs.Turning.{HasCome, OwnsNothing};
 ghost use Rattle.chord_worker.specs.Sending.{Minds, WasMindedLast};
 ghost use Rattle.chord_worker.specs.Resting.{IsAtRest, IsSameRole, IsOutOfMemory};
-ghost use Rattle.chord_worker.specs.Stepping.{DrewEnd};
+ghost use Rattle.chord_worker.specs.Stepping.{DrewEnd, StillStocked};
 
 use crate::minding::Minded;
 use crate::playing::draw_own;
@@ -60,6 +60,7 @@ impl Worker {
         ensures role { OnOk result (IsSameRole (view self.old.desk) (view self.new.desk)) }
         ensures minded { OnOk result (WasMindedLast G.knows (view self.old.desk).kept self.new message.number) }
         ensures stocked { OnOk result (self.new.spare ≢ None) }
+        ensures stock { OnOk result (StillStocked (view self.old.desk).draws self.old.spare self.new) }
         ensures bare { OnOk result (OwnsNothing asked.new) }
         ensures drew { (b : ℕ) → (view_of task).top ≡ Some b → DrewEnd b (view self.old.desk).draws (view self.new.desk).draws }
         ensures short { OnErr result (IsOutOfMemory space.now self.new) }

@@ -253,8 +253,9 @@ impl Worker {
         ensures desk { IsDeskOf space.now self.new.desk }
         ensures rest { IsAtRest space.now self.new }
         ensures role { IsSameRole (view self.old.desk) (view self.new.desk) }
-        ensures told { self.new.spent ≡ false }
+        ensures untold { self.new.spent ≡ false }
         ensures undrawn { (view self.new.desk).draws ≡ (view self.old.desk).draws }
+        ensures spare { self.new.spare ≡ self.old.spare }
         ensures taken { (v : View) → HasBegun space.now self.old v number task → HasTakenOn G.knows v.kept self.old.task self.new number }
     {
         if self.task.is_none() {
@@ -287,8 +288,10 @@ impl Worker {
         ensures desk { IsDeskOf space.now self.new.desk }
         ensures rest { IsAtRest space.now self.new }
         ensures role { IsSameRole (view self.old.desk) (view self.new.desk) }
-        ensures told { self.new.spent ≡ false }
+        ensures untold { self.new.spent ≡ false }
         ensures undrawn { (view self.new.desk).draws ≡ (view self.old.desk).draws }
+        ensures spare { (self.new.spare ≡ self.old.spare) ⊎ (self.new.spare ≡ None) }
+        ensures kept { unpacked.old.caller ≢ None → self.new.spare ≡ self.old.spare }
         ensures none { (unpacked.new.arguments.one.first ≡ []) × (unpacked.new.arguments.more ≡ None) × (unpacked.new.caller ≡ None) }
         ensures taken { (v : View) (qs : List TheParcel) → HasUnpacked unpacked.old.arguments.one unpacked.old.arguments.more unpacked.old.caller qs → HasFired space.now self.old v drawn.object drawn.chord members.now drawn.number qs → HasTakenOn G.knows v.kept self.old.task self.new drawn.number }
     {

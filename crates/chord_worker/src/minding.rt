@@ -1,5 +1,5 @@
 //! A worker minds a message that it sent off: it looks for chords with the message, and fires one.
-ghost use Rattle.std.specs.Prelude.{◌≡◌, ◌<◌, ℕ, true, false, None, IfOk, OnOk, OnErr, vec_len, vec_capacity};
+ghost use Rattle.std.specs.Prelude.{◌≡◌, ◌<◌, ℕ, true, false, None, OnOk, OnErr, vec_len, vec_capacity};
 ghost use Rattle.chord_base.specs.Story.{IsSound};
 ghost use Rattle.chord_match.specs.Findings.{IsMatch};
 ghost use Rattle.chord_match.specs.Fires.{IsLost};
@@ -9,7 +9,7 @@ ghost use Rattle.chord_space.specs.Desks.{view, heads, space_code, space_limits,
 ghost use Rattle.chord_worker.specs.Hindered.{IsHindered};
 ghost use Rattle.chord_worker.specs.Sending.{Minds};
 ghost use Rattle.chord_worker.specs.Resting.{IsAtRest, IsSameRole, IsOutOfMemory};
-ghost use Rattle.chord_worker.specs.Stepping.{DrewFiring, StillPlays, WasMinded};
+ghost use Rattle.chord_worker.specs.Stepping.{DrewFiring, StillPlays, StillStocked, WasMinded};
 
 use crate::fired::{Drawn, Unpacked, lay_off};
 use crate::worker::{Gate, Worker};
@@ -53,7 +53,7 @@ impl Worker {
     /// There is no memory: what the worker plays is not played on.
     #[inline(never)]
     fn drop_task(&mut self)
-        ensures rest { self.new ≡ record self.old { task = self.new.task } }
+        ensures frame { self.new ≡ record self.old { task = self.new.task } }
         ensures none { self.new.task ≡ None }
     {
         match self.task.take() {
@@ -74,7 +74,7 @@ impl Worker {
         }
     }
 
-    /// Fires the chord with these members, unless one is gone. Whether there is nothing left to mind.
+    /// Fires the chord with these members, unless one is gone. Whether there is nothing left to mind. There is room for the firing's entry.
     fn try_to_fire<G: Gate>(
         &mut self,
         space: &Space<Parcel>,
@@ -85,29 +85,27 @@ impl Worker {
         chord: u16,
         members: &Members,
         nexts: &Nexts,
-    ) -> Result<bool, AllocError>
+    ) -> bool
         requires code { code.now ≡ space_code space.now }
         requires limits { limits.now ≡ space_limits space.now }
         requires sound { IsSound (program_of space.now) }
         requires bounds { (message.object.number < space.now.events) × (message.object.class < 1024) × (message.method < heads space.now) }
+        requires place { vec_len self.old.draws < vec_capacity self.old.draws }
         requires minds { Minds space.now self.old message.number (key message.object message.method) }
         requires found { (v : View) × IsMatch (program_of space.now) space.now.events v (view self.old.desk) message.number message.object message.method chord members.now nexts.now }
         ensures desk { IsDeskOf space.now self.new.desk }
-        ensures over { IfOk result (λ b. b ≡ true → IsAtRest space.now self.new × (self.new.spent ≡ true → self.new.task ≡ None)) }
-        ensures again { IfOk result (λ b. b ≡ false → Minds space.now self.new message.number (key message.object message.method)) }
-        ensures role { OnOk result (IsSameRole (view self.old.desk) (view self.new.desk)) }
-        ensures minded { IfOk result (λ b. b ≡ true → WasMinded G.knows (view self.old.desk).kept self.old.task self.new message.number) }
-        ensures same { IfOk result (λ b. b ≡ false → StillPlays (view self.old.desk).kept self.old.task self.new) }
+        ensures over { result ≡ true → IsAtRest space.now self.new × (self.new.spent ≡ true → self.new.task ≡ None) }
+        ensures again { result ≡ false → Minds space.now self.new message.number (key message.object message.method) }
+        ensures frame { result ≡ false → self.new ≡ record self.old { desk = self.new.desk } }
+        ensures role { IsSameRole (view self.old.desk) (view self.new.desk) }
+        ensures minded { result ≡ true → WasMinded G.knows (view self.old.desk).kept self.old.task self.new message.number }
+        ensures same { result ≡ false → StillPlays (view self.old.desk).kept self.old.task self.new }
+        ensures stock { StillStocked (view self.old.desk).draws self.old.spare self.new }
         ensures drew { DrewFiring (view self.old.desk).draws (view self.new.desk).draws }
-        ensures undrawn { IfOk result (λ b. b ≡ false → (view self.new.desk).draws ≡ (view self.old.desk).draws) }
-        ensures short { OnErr result (IsOutOfMemory space.now self.new) }
-        ensures lost { IfOk result (λ b. b ≡ false → (i : ℕ) × IsLost space.now.events (view self.old.desk) (view self.new.desk) members.now nexts.now i) }
+        ensures undrawn { result ≡ false → (view self.new.desk).draws ≡ (view self.old.desk).draws }
+        ensures lost { result ≡ false → (i : ℕ) × IsLost space.now.events (view self.old.desk) (view self.new.desk) members.now nexts.now i }
     {
         let object = message.object;
-        if !reserve_draw(&mut self.draws) {
-            self.drop_task();
-            return Err(AllocError);
-        }
         let mut unpacked = Unpacked::nothing();
         match fire_to(
             space,
@@ -127,21 +125,21 @@ impl Worker {
                 };
                 self.begin_fired(space, code, limits, gate, drawn, members, &mut unpacked);
                 unpacked.lay_aside();
-                Ok(true)
+                true
             }
             Err(Missed::Lost(_)) => {
                 unpacked.lay_aside();
-                Ok(false)
+                false
             }
             Err(Missed::Spent) => {
                 unpacked.lay_aside();
                 self.give_up();
-                Ok(true)
+                true
             }
         }
     }
 
-    /// Looks for a chord with the message, and fires it. Whether there is nothing left to mind.
+    /// Looks for a chord with the message, and fires it. Whether there is nothing left to mind; if there is, the desk alone has changed.
     fn attend<G: Gate>(
         &mut self,
         space: &Space<Parcel>,
@@ -149,22 +147,24 @@ impl Worker {
         limits: &Limits,
         gate: &G,
         message: Minded,
-    ) -> Result<bool, AllocError>
+    ) -> bool
         requires code { code.now ≡ space_code space.now }
         requires limits { limits.now ≡ space_limits space.now }
         requires sound { IsSound (program_of space.now) }
         requires bounds { (message.number < space.now.events) × (message.object.number < space.now.events) × (message.object.class < 1024) × (message.method < heads space.now) }
+        requires place { vec_len self.old.draws < vec_capacity self.old.draws }
         requires minds { Minds space.now self.old message.number (key message.object message.method) }
         ensures desk { IsDeskOf space.now self.new.desk }
-        ensures over { IfOk result (λ b. b ≡ true → IsAtRest space.now self.new × (self.new.spent ≡ true → self.new.task ≡ None)) }
-        ensures again { IfOk result (λ b. b ≡ false → Minds space.now self.new message.number (key message.object message.method)) }
-        ensures role { OnOk result (IsSameRole (view self.old.desk) (view self.new.desk)) }
-        ensures minded { IfOk result (λ b. b ≡ true → WasMinded G.knows (view self.old.desk).kept self.old.task self.new message.number) }
-        ensures same { IfOk result (λ b. b ≡ false → StillPlays (view self.old.desk).kept self.old.task self.new) }
+        ensures over { result ≡ true → IsAtRest space.now self.new × (self.new.spent ≡ true → self.new.task ≡ None) }
+        ensures again { result ≡ false → Minds space.now self.new message.number (key message.object message.method) }
+        ensures frame { result ≡ false → self.new ≡ record self.old { desk = self.new.desk } }
+        ensures role { IsSameRole (view self.old.desk) (view self.new.desk) }
+        ensures minded { result ≡ true → WasMinded G.knows (view self.old.desk).kept self.old.task self.new message.number }
+        ensures same { result ≡ false → StillPlays (view self.old.desk).kept self.old.task self.new }
+        ensures stock { StillStocked (view self.old.desk).draws self.old.spare self.new }
         ensures drew { DrewFiring (view self.old.desk).draws (view self.new.desk).draws }
-        ensures undrawn { IfOk result (λ b. b ≡ false → (view self.new.desk).draws ≡ (view self.old.desk).draws) }
-        ensures short { OnErr result (IsOutOfMemory space.now self.new) }
-        ensures hindered { IfOk result (λ b. b ≡ false → IsHindered (program_of space.now) space.now.events (view self.old.desk) (view self.new.desk) message.number message.object message.method) }
+        ensures undrawn { result ≡ false → (view self.new.desk).draws ≡ (view self.old.desk).draws }
+        ensures hindered { result ≡ false → IsHindered (program_of space.now) space.now.events (view self.old.desk) (view self.new.desk) message.number message.object message.method }
     {
         let mut members = Members::new();
         let mut nexts = Nexts::new();
@@ -179,18 +179,16 @@ impl Worker {
             &mut nexts,
         ) {
             Finding::Match(chord) => {
-                let over = self.try_to_fire(
-                    space, code, limits, gate, message, chord, &members, &nexts,
-                )?;
-                Ok(over)
+                self.try_to_fire(space, code, limits, gate, message, chord, &members, &nexts)
             }
-            Finding::Busy(_) => Ok(false),
-            Finding::Left => Ok(true),
-            Finding::Taken => Ok(true),
+            Finding::Busy(_) => false,
+            Finding::Left => true,
+            Finding::Taken => true,
         }
     }
 
-    /// Minds the message until nothing is left to mind: it was taken, or no chord with it is enabled, or one was fired.
+    /// Minds the message until nothing is left to mind: it was taken, or no chord with it is enabled, or one was fired. There is room for
+    /// the entry of a firing before any is looked for.
     pub(crate) fn mind<R: Wait, G: Gate>(
         &mut self,
         rt: &R,
@@ -209,13 +207,18 @@ impl Worker {
         ensures over { OnOk result (IsAtRest space.now self.new × (self.new.spent ≡ true → self.new.task ≡ None)) }
         ensures role { OnOk result (IsSameRole (view self.old.desk) (view self.new.desk)) }
         ensures minded { OnOk result (WasMinded G.knows (view self.old.desk).kept self.old.task self.new message.number) }
+        ensures stock { OnOk result (StillStocked (view self.old.desk).draws self.old.spare self.new) }
         ensures drew { DrewFiring (view self.old.desk).draws (view self.new.desk).draws }
         ensures short { OnErr result (IsOutOfMemory space.now self.new) }
     {
-        if self.attend(space, code, limits, gate, message)? {
+        if !reserve_draw(&mut self.draws) {
+            self.drop_task();
+            return Err(AllocError);
+        }
+        if self.attend(space, code, limits, gate, message) {
             return Ok(());
         }
-        self.mind_on(rt, space, code, limits, gate, message)?;
+        self.mind_on(rt, space, code, limits, gate, message);
         Ok(())
     }
 
@@ -229,23 +232,24 @@ impl Worker {
         limits: &Limits,
         gate: &G,
         message: Minded,
-    ) -> Result<(), AllocError>
+    )
         requires code { code.now ≡ space_code space.now }
         requires limits { limits.now ≡ space_limits space.now }
         requires sound { IsSound (program_of space.now) }
         requires bounds { (message.number < space.now.events) × (message.object.number < space.now.events) × (message.object.class < 1024) × (message.method < heads space.now) }
+        requires place { vec_len self.old.draws < vec_capacity self.old.draws }
         requires minds { Minds space.now self.old message.number (key message.object message.method) }
         ensures desk { IsDeskOf space.now self.new.desk }
-        ensures over { OnOk result (IsAtRest space.now self.new × (self.new.spent ≡ true → self.new.task ≡ None)) }
-        ensures role { OnOk result (IsSameRole (view self.old.desk) (view self.new.desk)) }
-        ensures minded { OnOk result (WasMinded G.knows (view self.old.desk).kept self.old.task self.new message.number) }
+        ensures over { IsAtRest space.now self.new × (self.new.spent ≡ true → self.new.task ≡ None) }
+        ensures role { IsSameRole (view self.old.desk) (view self.new.desk) }
+        ensures minded { WasMinded G.knows (view self.old.desk).kept self.old.task self.new message.number }
+        ensures stock { StillStocked (view self.old.desk).draws self.old.spare self.new }
         ensures drew { DrewFiring (view self.old.desk).draws (view self.new.desk).draws }
-        ensures short { OnErr result (IsOutOfMemory space.now self.new) }
     {
         let backoff = Backoff::new();
         for _ in rt.forever() {
-            if self.attend(space, code, limits, gate, message)? {
-                return Ok(());
+            if self.attend(space, code, limits, gate, message) {
+                return;
             }
             backoff.snooze();
         }

@@ -12,7 +12,7 @@ ghost use Rattle.chord_task.specs.Turning.{HasCome, OwnsNothing};
 ghost use Rattle.chord_vm.specs.Frames.{what_of_ask};
 ghost use Rattle.chord_worker.specs.Playing.{IsNoMessage};
 ghost use Rattle.chord_worker.specs.Resting.{IsInMemory, IsStock, MayContinue, IsAtRest, IsSameRole, IsOutOfMemory};
-ghost use Rattle.chord_worker.specs.Stepping.{DrewAStep, HasGoneOn, PlaysNoOther, PlaysNext};
+ghost use Rattle.chord_worker.specs.Stepping.{DrewAStep, HasGoneOn, PlaysNoOther, PlaysNext, StillStocked};
 
 use crate::fired::lay_off;
 use crate::playing::{draw_own, see_to_stock};
@@ -65,7 +65,7 @@ impl Worker {
     /// A task that may not go on. Where no body is left in it and none is in stock, it goes there: its memory serves for the next body.
     #[inline(never)]
     pub(crate) fn retire(&mut self, task: Apart<Task>)
-        ensures rest { self.new ≡ record self.old { spare = self.new.spare } }
+        ensures frame { self.new ≡ record self.old { spare = self.new.spare } }
         ensures same { (self.new.desk ≡ self.old.desk) × (self.new.task ≡ self.old.task) × (self.new.spent ≡ self.old.spent) }
         ensures lists { (self.new.draws ≡ self.old.draws) × (self.new.taken ≡ self.old.taken) }
         ensures spare { self.old.spare ≢ None → self.new.spare ≡ self.old.spare }
@@ -111,6 +111,7 @@ impl Worker {
         ensures over { OnOk result (self.new.spent ≡ true → self.new.task ≡ None) }
         ensures went { OnOk result (HasGoneOn (view self.old.desk).kept task self.new) }
         ensures plays { OnOk result (PlaysNoOther task self.new.task) }
+        ensures stays { OnOk result (self.old.spare ≢ None → self.new.spare ≡ self.old.spare) }
         ensures stocked { OnOk result ((e : AnEnd) → asked.old ≡ Some (Ask.End e) → vec_len task.below ≡ 0 → (self.new.spare ≢ None) ⊎ (self.new.spent ≡ true)) }
         ensures bare { OnOk result (OwnsNothing asked.new) }
         ensures drew { DrewAStep task (view self.old.desk).draws (view self.new.desk).draws }
@@ -163,6 +164,7 @@ impl Worker {
         ensures over { OnOk result (self.new.spent ≡ true → self.new.task ≡ None) }
         ensures went { OnOk result (HasGoneOn (view self.old.desk).kept task self.new) }
         ensures plays { OnOk result (PlaysNext G.knows (view self.old.desk).kept task self.new) }
+        ensures stock { OnOk result (StillStocked (view self.old.desk).draws self.old.spare self.new) }
         ensures bare { OnOk result (OwnsNothing asked.new) }
         ensures drew { DrewAStep task (view self.old.desk).draws (view self.new.desk).draws }
         ensures short { OnErr result (IsOutOfMemory space.now self.new) }
@@ -208,7 +210,8 @@ impl Worker {
     /// minded until it is taken or no chord with it is enabled; a firing's body begins; the memory of a task that is over serves for
     /// another. Where the limit on events is reached the task is laid down. So afterwards the desk keeps a newer entry than all that it kept, or the
     /// task went away with its call, or the desk was told of the limit. The gate knows of each body that the worker begins to play, and
-    /// no step goes on with such a body: beside at most one firing it draws entries of the body on top alone.
+    /// no step goes on with such a body: beside at most one firing it draws entries of the body on top alone. What is in stock stays there, unless
+    /// such a firing was drawn.
     /// Want of memory is an `Err`: the task is gone, and each entry that was drawn stands in the lists, since there is room for it before it is drawn.
     pub fn step<R: Wait, G: Gate>(
         &mut self,
@@ -228,6 +231,7 @@ impl Worker {
         ensures over { OnOk result ((view self.new.desk).spent ≡ true → self.new.task ≡ None) }
         ensures went { OnOk result ((t : TheTask) → self.old.task ≡ Some t → HasGoneOn (view self.old.desk).kept t self.new) }
         ensures plays { OnOk result ((t : TheTask) → self.old.task ≡ Some t → PlaysNext G.knows (view self.old.desk).kept t self.new) }
+        ensures stock { OnOk result (StillStocked (view self.old.desk).draws self.old.spare self.new) }
         ensures drew { (t : TheTask) → self.old.task ≡ Some t → DrewAStep t (view self.old.desk).draws (view self.new.desk).draws }
         ensures short { OnErr result (IsOutOfMemory space.now self.new) }
     {

@@ -1,4 +1,4 @@
-use Rattle.std.proofs.Common.{◌≡◌, sym, ◌∙◌, Some, None}
+use Rattle.std.proofs.Common.{◌≡◌, sym, ◌∙◌, Some, None, inl, inr, ⊎_elim}
 use Rattle.chord_task.specs.Gathering.{gathered_in}
 use Rattle.chord_worker.proofs.Beginning.{task_is, may_be_begun, twice, few_values, begun_there}
 use Rattle.chord_worker.proofs.worker.Worker.begin_fired.Goals as goal
@@ -28,3 +28,9 @@ pub returns-clause-taken : goal.returns-clause-taken
 returns-clause-taken g c = λ v qs unpacked fired.
     c.take_on.ensures.taken v
     (begun_there _ _ _ _ _ _ _ _ fired c.requires.sound _ c.requires.code c.chords_are_right.ensures _ (c.take.ensures.value ∙ unpacked.caller_is) _ c.take_task-task.ensures.task (gathered_in c.args.unpacked.now.arguments.one c.args.unpacked.now.arguments.more) unpacked.gathered.values unpacked.gathered.twice _ c.take_task-task.ensures.spare _ (rw (c.deref_mut.ensures.value ∙ c.task.view_is) at c.begin_body.ensures.task) (rw (c.deref_mut.ensures.value ∙ c.task.view_is) at c.begin_body.ensures.past) c.begin_body.ensures.top c.begin_body.new.draws (rw (c.deref_mut.ensures.value ∙ c.task.view_is) at c.begin_body.ensures.listed))
+
+pub returns-clause-spare : goal.returns-clause-spare
+returns-clause-spare g c = ⊎_elim (λ same. inl (c.take_on.ensures.spare ∙ same)) (λ none. inr (c.take_on.ensures.spare ∙ none)) c.take_task-task.ensures.spare
+
+pub returns-clause-kept : goal.returns-clause-kept
+returns-clause-kept g c = λ some. c.take_on.ensures.spare ∙ c.take_task-task.ensures.kept (λ none. some (sym c.take.ensures.value ∙ none))

@@ -21,11 +21,12 @@ use Rattle.chord_worker.specs.Playing.{DrawsOne, HeardOfLimit, IsNotedAs, IsNote
 use Rattle.chord_worker.specs.Resting.{IsAtRest, IsSameRole}
 use Rattle.chord_worker.specs.Stepping.{DrewEnd, WasMinded}
 use Rattle.chord_worker.proofs.Attending.{role_on}
-use Rattle.chord_worker.proofs.Drawn.{was_noted, last_drew, none_drew}
+use Rattle.chord_worker.proofs.Drawn.{was_noted, last_drew, none_drew, step_stocked}
 use Rattle.chord_worker.proofs.Ended.{ended_minds, ended_told, rest_stocked, stays_stocked}
 use Rattle.chord_worker.proofs.Given.{value_of_some, where_none}
 use Rattle.chord_worker.proofs.Resting.{role_noted, role_told}
 use Rattle.chord_worker.proofs.Stepping.{minded_as}
+use Rattle.chord_worker.proofs.Stocked.{stocked_retired}
 use Rattle.chord_worker.proofs.worker.Worker.end_and_mind.Given.{Over}
 use Rattle.chord_worker.proofs.worker.Worker.end_and_mind.Goals.{After-draw_own}
 use Rattle.chord_worker.proofs.worker.Worker.end_and_mind.Goals as goal
@@ -59,7 +60,7 @@ returns-in_ok-mind-in-Some-clause-over g c =
     let noted = noted_here g (goal.at.returns-in_ok-mind-in-Some-clause-over g c).After-draw_own c.in-Some.is c.in_ok-draw_own.ensures.noted in
     let r = c.in_ok-mind-in-Some.ensures.over in
     let stock = c.retire.ensures.stock (space_code s) (space_limits s) noted.task r.0.stock in (
-      subst (IsAtRest s) (sym c.retire.ensures.rest) (rest_stocked s c.mind.new.self c.retire.new.self.spare stock r.0),
+      subst (IsAtRest s) (sym c.retire.ensures.frame) (rest_stocked s c.mind.new.self c.retire.new.self.spare stock r.0),
       λ e. c.retire.ensures.same.1 ∙ r.1 (sym c.retire.ensures.same.2 ∙ e),
     )
 
@@ -137,3 +138,13 @@ returns-in-None-clause-drew g c = λ b top.
 
 pub returns-in_err-draw_own-clause-drew : goal.returns-in_err-draw_own-clause-drew
 returns-in_err-draw_own-clause-drew g c = λ b top. inl (inl (ap (λ (z : View). z.draws) c.in_err-draw_own.ensures.undrawn.0))
+
+pub returns-in_ok-mind-in-Some-clause-stock : goal.returns-in_ok-mind-in-Some-clause-stock
+returns-in_ok-mind-in-Some-clause-stock g c =
+    let w = c.args.self.now in
+    stocked_retired (view w.desk).draws w.spare c.mind.new.self c.retire.new.self c.retire.ensures.same.0 c.retire.ensures.spare
+    (step_stocked c.args.space.now (view w.desk) (view c.draw_own.new.desk) c.replace.new.dest c.args.task c.draw_own.new.task _ c.in-Some.field-0 c.in-Some.is c.in_ok-draw_own.ensures.noted (ask.End (Gives a_value.Unit)) c.args.task c.replace.ensures.after c.requires.came
+    (view c.draw_own.new.desk).draws w.spare w.spare c.mind.new.self refl (λ _. refl) c.in_ok-mind-in-Some.ensures.stock)
+
+pub returns-in-None-clause-stock : goal.returns-in-None-clause-stock
+returns-in-None-clause-stock g c = λ _. inl c.lay_down.ensures.same.1

@@ -1,25 +1,45 @@
+use Rattle.std.proofs.Common.{◌<◌, sym, ap, subst, inl, vec_len, vec_capacity}
 use Rattle.chord_space.specs.Desks.{view}
-use Rattle.chord_worker.proofs.Attending.{role_on}
+use Rattle.chord_worker.specs.declared.worker.Worker.{Worker}
+use Rattle.chord_worker.specs.Resting.{IsOutOfMemory}
+use Rattle.chord_worker.proofs.Attending.{role_on, minds_roomier, out_of_memory}
 use Rattle.chord_worker.proofs.Drawn.{drew_since}
 use Rattle.chord_worker.proofs.Stepping.{minded_since}
+use Rattle.chord_worker.proofs.Stocked.{stocked_alike}
 use Rattle.chord_worker.proofs.worker.Worker.mind.Goals as goal
 
 pub mind_on-requires-clause-minds : goal.mind_on-requires-clause-minds
-mind_on-requires-clause-minds g c = c.in_ok-attend.ensures.again c.if-branch.false
+mind_on-requires-clause-minds g c = c.attend.ensures.again c.if-attend.false
 
 pub returns-clause-role : goal.returns-clause-role
 returns-clause-role g c =
-    role_on (view c.args.self.now.desk) (view c.attend.new.self.desk) (view c.mind_on.new.self.desk) c.in_ok-attend.ensures.role c.in_ok-mind_on.ensures.role
+    role_on (view c.args.self.now.desk) (view c.attend.new.self.desk) (view c.mind_on.new.self.desk) c.attend.ensures.role c.mind_on.ensures.role
 
 pub returns-clause-minded : goal.returns-clause-minded
 returns-clause-minded g c =
-    let same = c.in_ok-attend.ensures.same c.if-branch.false in
-    minded_since g.G.Gate.knows _ _ _ _ _ _ same.0 same.1 c.in_ok-mind_on.ensures.minded
+    let same = c.attend.ensures.same c.if-attend.false in
+    minded_since g.G.Gate.knows _ _ _ _ _ _ same.0 same.1 c.mind_on.ensures.minded
 
 pub returns-clause-drew : goal.returns-clause-drew
 returns-clause-drew g c =
-    drew_since (view c.args.self.now.desk).draws (view c.attend.new.self.desk).draws (view c.mind_on.new.self.desk).draws (c.in_ok-attend.ensures.undrawn c.if-branch.false) c.mind_on.ensures.drew
+    drew_since (view c.args.self.now.desk).draws (view c.attend.new.self.desk).draws (view c.mind_on.new.self.desk).draws (c.attend.ensures.undrawn c.if-attend.false) c.mind_on.ensures.drew
 
-pub returns-in_err-mind_on-clause-drew : goal.returns-in_err-mind_on-clause-drew
-returns-in_err-mind_on-clause-drew g c =
-    drew_since (view c.args.self.now.desk).draws (view c.attend.new.self.desk).draws (view c.mind_on.new.self.desk).draws (c.in_ok-attend.ensures.undrawn c.if-branch.false) c.mind_on.ensures.drew
+pub attend-requires-clause-minds : goal.attend-requires-clause-minds
+attend-requires-clause-minds g c = minds_roomier c.args.space.now c.args.self.now _ _ c.requires.minds c.reserve_draw.new.draws c.reserve_draw.ensures.items
+
+pub mind_on-requires-clause-place : goal.mind_on-requires-clause-place
+mind_on-requires-clause-place g c =
+    subst (λ (w : Worker). vec_len w.draws < vec_capacity w.draws) (sym (c.attend.ensures.frame c.if-attend.false)) (c.reserve_draw.ensures.room c.if-not-reserve_draw.false)
+
+pub returns-clause-stock : goal.returns-clause-stock
+returns-clause-stock g c =
+    stocked_alike (view c.args.self.now.desk).draws (view c.attend.new.self.desk).draws c.args.self.now.spare c.attend.new.self.spare c.mind_on.new.self (λ _. ap (λ (w : Worker). w.spare) (c.attend.ensures.frame c.if-attend.false))
+    c.mind_on.ensures.stock (c.attend.ensures.undrawn c.if-attend.false)
+
+pub returns-then-not-reserve_draw-clause-short : goal.returns-then-not-reserve_draw-clause-short
+returns-then-not-reserve_draw-clause-short g c =
+    subst (IsOutOfMemory c.args.space.now) (sym c.drop_task.ensures.frame)
+    (out_of_memory c.args.space.now c.args.self.now _ _ c.requires.minds c.reserve_draw.new.draws c.reserve_draw.ensures.items c.drop_task.new.self.task c.drop_task.ensures.none)
+
+pub returns-then-not-reserve_draw-clause-drew : goal.returns-then-not-reserve_draw-clause-drew
+returns-then-not-reserve_draw-clause-drew g c = inl (ap (λ (w : Worker). (view w.desk).draws) c.drop_task.ensures.frame)

@@ -19,7 +19,7 @@ use Rattle.chord_worker.proofs.Given.{only_ask, value_of_some, where_none}
 use Rattle.chord_worker.specs.Resting.{IsInMemory, MayContinue}
 use Rattle.chord_worker.proofs.Resting.{rest_told}
 use Rattle.chord_worker.proofs.Attending.{role_on}
-use Rattle.chord_worker.proofs.Drawn.{was_noted, step_drew, none_drew}
+use Rattle.chord_worker.proofs.Drawn.{was_noted, step_drew, none_drew, step_stocked}
 use Rattle.chord_worker.proofs.Sent.{task_may, task_left, task_memory, now_minds, minds_role}
 use Rattle.chord_worker.proofs.Stepping.{went_called, plays_minded, gone_on, plays_next}
 use Rattle.chord_worker.specs.Stepping.{PlaysNoOther, WasMinded}
@@ -147,3 +147,11 @@ returns-in-None-clause-drew g c =
 
 pub returns-in_err-number-clause-drew : goal.returns-in_err-number-clause-drew
 returns-in_err-number-clause-drew g c = inl (ap (λ (z : View). z.draws) c.in_err-number.ensures.undrawn.0)
+
+pub returns-in_ok-mind-in-Some-clause-stock : goal.returns-in_ok-mind-in-Some-clause-stock
+returns-in_ok-mind-in-Some-clause-stock g c =
+    step_stocked c.args.space.now (view c.args.self.now.desk) (view c.draw_own.new.desk) c.args.asked.now c.args.task c.draw_own.new.task _ c.in-Some.number c.in-Some.is c.in_ok-number.ensures.noted (ask.Call c.args.object c.args.method c.args.held.first) c.requires.came.0 c.requires.asked c.requires.came.1
+    (view c.send_task.new.desk).draws c.args.self.now.spare c.args.self.now.spare c.mind.new.self c.send_task.ensures.sent.draws (λ _. refl) c.in_ok-mind-in-Some.ensures.stock
+
+pub returns-in-None-clause-stock : goal.returns-in-None-clause-stock
+returns-in-None-clause-stock g c = λ _. inl c.lay_down.ensures.same.1

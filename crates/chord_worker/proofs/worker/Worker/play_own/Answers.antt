@@ -136,3 +136,9 @@ returns-in-Some-clause-stocked c = λ e asked alone.
     let n = c.in-Some.field-0 in
     let top = value_of_some _ n (λ _. (e : End) → c.args.asked.now ≡ Some (ask.End e) → vec_len c.args.task.below ≡ 0 → c.draw_own.new.task.top ≡ None) c.in-Some.is c.in_ok-draw_own.ensures.over e asked alone in
     inl (stays_stocked c.args.self.now.spare c.settle.new.self.spare c.settle.ensures.spare (λ none. c.settle.ensures.serves none top))
+
+pub returns-in-Some-clause-stays : goal.returns-in-Some-clause-stays
+returns-in-Some-clause-stays c = c.settle.ensures.spare
+
+pub returns-in-None-clause-stays : goal.returns-in-None-clause-stays
+returns-in-None-clause-stays c = λ _. c.lay_down.ensures.same.1

@@ -7,12 +7,11 @@ use Rattle.chord_space.specs.declared.space.Desk.{Desk}
 use Rattle.chord_space.specs.Desks.{view, IsSameDesk}
 use Rattle.chord_task.specs.declared.parcel.Opened.{Opened as Parcel}
 use Rattle.chord_task.proofs.Gathering.{none_gathered}
-use Rattle.chord_worker.proofs.Attending.{found_fired, still_minds, refused, lost_looks, out_of_memory}
+use Rattle.chord_worker.proofs.Attending.{found_fired, still_minds, refused, lost_looks}
 use Rattle.chord_worker.proofs.Drawn.{fired_drew}
 use Rattle.chord_worker.proofs.Stepping.{message_older, taken_minded}
-use Rattle.chord_worker.specs.declared.worker.Worker.{Worker}
-use Rattle.chord_worker.specs.Resting.{IsOutOfMemory}
-use Rattle.chord_worker.specs.Stepping.{DrewFiring}
+use Rattle.chord_worker.proofs.Stocked.{fired_last}
+use Rattle.chord_worker.specs.Stepping.{DrewFiring, DrewFiringLast}
 use Rattle.chord_worker.proofs.worker.Worker.try_to_fire.Goals as goal
 
 pub fire_to-requires-clause-empty : goal.fire_to-requires-clause-empty
@@ -21,19 +20,19 @@ fire_to-requires-clause-empty g c = record { gathered = rw c.nothing-unpacked.en
 pub begin_fired-requires-clause-fired : goal.begin_fired-requires-clause-fired
 begin_fired-requires-clause-fired g c =
     let f = c.in-Ok.ensures.fired in
-    (view c.args.self.now.desk, f.0, f.1, found_fired _ _ _ _ _ c.requires.minds _ _ _ _ c.requires.found.1 _ c.fire_to.ensures.desk _ _ f.2 c.reserve_draw.new.draws c.reserve_draw.ensures.items)
+    (view c.args.self.now.desk, f.0, f.1, found_fired _ _ _ _ _ c.requires.minds _ _ _ _ c.requires.found.1 _ c.fire_to.ensures.desk _ _ f.2)
 
 pub returns-in-Ok-clause-minded : goal.returns-in-Ok-clause-minded
 returns-in-Ok-clause-minded g c = λ e.
     let found = c.requires.found.1 in
     let f = c.in-Ok.ensures.fired in
     taken_minded g.G.Gate.knows _ _ _ _ _ (message_older _ _ _ _ _ _ _ f.2.came found.own)
-    (c.begin_fired.ensures.taken (view c.args.self.now.desk) f.0 f.1 (found_fired _ _ _ _ _ c.requires.minds _ _ _ _ found _ c.fire_to.ensures.desk _ _ f.2 c.reserve_draw.new.draws c.reserve_draw.ensures.items))
+    (c.begin_fired.ensures.taken (view c.args.self.now.desk) f.0 f.1 (found_fired _ _ _ _ _ c.requires.minds _ _ _ _ found _ c.fire_to.ensures.desk _ _ f.2))
 
 pub returns-in-Err-Lost-clause-again : goal.returns-in-Err-Lost-clause-again
 returns-in-Err-Lost-clause-again g c = λ e.
     let lost = rw c.in-Err-Lost.field-0-is at c.in-Err-Lost.ensures.missed in
-    still_minds c.args.space.now c.args.self.now (record c.args.self.now { desk = c.fire_to.new.desk; draws = c.reserve_draw.new.draws }) _ _ c.requires.minds c.fire_to.ensures.desk refl c.reserve_draw.ensures.items (lost_looks _ _ lost.same)
+    still_minds c.args.space.now c.args.self.now (record c.args.self.now { desk = c.fire_to.new.desk }) _ _ c.requires.minds c.fire_to.ensures.desk refl (lost_looks _ _ lost.same)
 
 pub returns-in-Err-Spent-clause-over : goal.returns-in-Err-Spent-clause-over
 returns-in-Err-Spent-clause-over g c = λ e.
@@ -44,7 +43,7 @@ returns-in-Err-Spent-clause-over g c = λ e.
           (subst (λ (x : Desk Parcel). IsSameDesk c.args.self.now.desk x) (sym d) c.fire_to.ensures.desk)
           (subst (λ (x : Desk Parcel). view x ≡ record (view c.args.self.now.desk) { looked = (view x).looked; spent = true }) (sym d) turned.same)
           none c.give_up.ensures.same.2 c.give_up.ensures.same.1
-          (ap (λ (x : Vec Entry Global). x.items) c.give_up.ensures.lists.0 ∙ c.reserve_draw.ensures.items) (ap (λ (x : Vec (Vec Entry Global) Global). x.items) c.give_up.ensures.lists.1),
+          (ap (λ (x : Vec Entry Global). x.items) c.give_up.ensures.lists.0) (ap (λ (x : Vec (Vec Entry Global) Global). x.items) c.give_up.ensures.lists.1),
       λ z. none,
     )
 
@@ -60,14 +59,6 @@ returns-in-Err-Spent-clause-minded g c = λ e.
 
 pub returns-in-Err-Lost-clause-lost : goal.returns-in-Err-Lost-clause-lost
 returns-in-Err-Lost-clause-lost g c = λ e. (_, rw c.in-Err-Lost.field-0-is at c.in-Err-Lost.ensures.missed)
-
-pub returns-then-not-reserve_draw-clause-short : goal.returns-then-not-reserve_draw-clause-short
-returns-then-not-reserve_draw-clause-short g c =
-    subst (IsOutOfMemory c.args.space.now) (sym c.drop_task.ensures.rest)
-    (out_of_memory c.args.space.now c.args.self.now _ _ c.requires.minds c.reserve_draw.new.draws c.reserve_draw.ensures.items c.drop_task.new.self.task c.drop_task.ensures.none)
-
-pub returns-then-not-reserve_draw-clause-drew : goal.returns-then-not-reserve_draw-clause-drew
-returns-then-not-reserve_draw-clause-drew g c = inl (ap (λ (w : Worker). (view w.desk).draws) c.drop_task.ensures.rest)
 
 pub returns-in-Ok-clause-drew : goal.returns-in-Ok-clause-drew
 returns-in-Ok-clause-drew g c =
@@ -87,3 +78,13 @@ pub returns-in-Err-Spent-clause-drew : goal.returns-in-Err-Spent-clause-drew
 returns-in-Err-Spent-clause-drew g c =
     let turned : IsMissedBy c.args.space.now.events (view c.args.self.now.desk) (view c.fire_to.new.desk) c.args.members.now c.args.nexts.now a_miss.Spent = rw c.in-Err-Spent.field-0-is at c.in-Err-Spent.ensures.missed in
     inl (ap (λ (x : Desk Parcel). (view x).draws) c.give_up.ensures.same.0 ∙ ap (λ (z : View). z.draws) turned.same)
+
+pub returns-in-Ok-clause-stock : goal.returns-in-Ok-clause-stock
+returns-in-Ok-clause-stock g c = λ _.
+    inr (subst (DrewFiringLast (view c.args.self.now.desk).draws) (sym c.begin_fired.ensures.undrawn) (fired_last _ _ _ _ _ _ _ _ _ _ c.in-Ok.ensures.fired.2))
+
+pub returns-in-Err-Lost-clause-stock : goal.returns-in-Err-Lost-clause-stock
+returns-in-Err-Lost-clause-stock g c = λ _. inl refl
+
+pub returns-in-Err-Spent-clause-stock : goal.returns-in-Err-Spent-clause-stock
+returns-in-Err-Spent-clause-stock g c = λ _. inl c.give_up.ensures.same.1
