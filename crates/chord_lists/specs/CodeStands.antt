@@ -60,11 +60,9 @@ is_on_top at list = is_place at (slice_get list 0)
 abbrev pub topped_by : ℕ → List ℕ → List ℕ
 topped_by at list = if is_on_top at list then list else at ∷ list
 
--- one place came behind the list, or none
-pub record HasOneMoreAtMost (old new : List ℕ) : Type 0 where
-  pub come : List ℕ
-  pub is : new ≡ old ++ come
-  pub few : length come ≤ 1
+-- the place of one of these tasks, or of one more, came on top of the list, if it was not there
+abbrev pub GotTop : List Task → List ℕ → List ℕ → Type 0
+GotTop tasks old new = (at : ℕ) × ((reverse new ≡ topped_by at (reverse old)) ⊎ ((at ≡ length tasks) × (new ≡ old ++ at ∷ [])))
 
 -- ## Tasks that may go on, and tasks that wait
 
@@ -103,6 +101,11 @@ pub record AreOver (tasks : List Task) (over : List ℕ) : Type 0 where
 -- the list with the place of a task on top once more, if the task is over
 abbrev pub with_over : List Task → ℕ → List ℕ → List ℕ
 with_over tasks at over = if over_at tasks at then at ∷ over else over
+
+-- the list after a turn of the task at this place, or as it was where no task had a turn
+abbrev pub over_behind : List Task → Option ℕ → List ℕ → List ℕ
+over_behind tasks None over = over
+over_behind tasks (Some at) over = with_over tasks at over
 
 -- a body begins in a task that stood there, or in one more, where it serves no call and no task was over
 abbrev pub StoodOrAlone : List Task → List Task → Option ℕ → Type 0

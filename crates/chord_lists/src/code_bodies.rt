@@ -9,7 +9,7 @@ ghost use Rattle.chord_base.specs.Bodies.{served_among};
 ghost use Rattle.chord_code.specs.Meaning.{code_program, method_is_sync};
 ghost use Rattle.chord_lists.specs.Engine.{main_begun, IsRunOfLength, MayGoOn, Went, MayBegin, Began};
 ghost use Rattle.chord_task.specs.Standing.{view_of};
-ghost use Rattle.chord_lists.specs.CodeStands.{StandsAfter, StandsWith, IsCut, HasOneMoreAtMost, AreReady, AreOver, StoodOrAlone, ready_at, over_at, with_over, is_on_top, topped_by, turn_to, WentAt, IsMessageAt, AreMessagesAt, message_at, sent_arguments, sent_values, home, Serves, FitsAt, MayReplay, Replayed};
+ghost use Rattle.chord_lists.specs.CodeStands.{StandsAfter, StandsWith, IsCut, GotTop, over_behind, AreReady, AreOver, StoodOrAlone, ready_at, over_at, with_over, is_on_top, topped_by, turn_to, WentAt, IsMessageAt, AreMessagesAt, message_at, sent_arguments, sent_values, home, Serves, FitsAt, MayReplay, Replayed};
 
 use crate::engine::Turn;
 use chord_base::event::{Entry, Limits, What};
@@ -133,9 +133,9 @@ fn next_over(tasks: &[Task], over: &mut Vec<u32>) -> Option<u32>
     None
 }
 
-/// The place of a task, in two bytes.
+/// The place of a task as `homes` keeps it, in two bytes.
 #[inline(always)]
-fn place_of(at: u32) -> u16
+fn as_home(at: u32) -> u16
     requires { at < 65536 }
     ensures { result ≡ at }
 {
@@ -165,7 +165,7 @@ fn make(
     let task = &mut bodies.tasks[at as usize];
     let sent = task.turn(alloc, code, limits, number, &mut bodies.entries)?;
     keep_over(task, &mut bodies.over, at)?;
-    bodies.homes.push(place_of(at))?;
+    bodies.homes.push(as_home(at))?;
     Ok(turn_to(sent))
 }
 
@@ -209,7 +209,7 @@ pub fn go_on(
     ensures went { IfOk result (λ turn. Went (code_program code.now limits.now) (StandsAfter code.now limits.now bodies.old) (StandsAfter code.now limits.now bodies.new) number turn) }
     ensures cut { OnOk result (IsCut bodies.old.ready.items bodies.new.ready.items) }
     ensures top { OnOk result (bodies.new.homes.items ≡ bodies.old.homes.items ++ take 1 (reverse bodies.new.ready.items)) }
-    ensures over { OnOk result (HasOneMoreAtMost bodies.old.over.items bodies.new.over.items) }
+    ensures over { OnOk result (reverse bodies.new.over.items ≡ over_behind bodies.new.tasks.items (slice_get (reverse bodies.new.ready.items) 0) (reverse bodies.old.over.items)) }
     ensures tasks { OnOk result (length bodies.new.tasks.items ≡ length bodies.old.tasks.items) }
 {
     match next_ready(&bodies.tasks, &mut bodies.ready) {
@@ -351,7 +351,7 @@ fn begin_at(
         &mut bodies.entries,
     )?;
     put_ready(&mut bodies.ready, at)?;
-    bodies.homes.push(place_of(at))?;
+    bodies.homes.push(as_home(at))?;
     Ok(())
 }
 
@@ -404,7 +404,7 @@ fn begin_alone(
     )?;
     bodies.tasks.push(task)?;
     bodies.ready.push(at)?;
-    bodies.homes.push(place_of(at))?;
+    bodies.homes.push(as_home(at))?;
     Ok(())
 }
 
@@ -426,7 +426,7 @@ pub fn begin_body(
     requires call { Serves (code_program code.now limits.now) chord object members.old served }
     ensures began { IfOk result (λ _. Began (code_program code.now limits.now) (StandsAfter code.now limits.now bodies.old) (StandsAfter code.now limits.now bodies.new) number chord object members.old) }
     ensures top { OnOk result (bodies.new.homes.items ≡ bodies.old.homes.items ++ take 1 (reverse bodies.new.ready.items)) }
-    ensures ready { OnOk result (HasOneMoreAtMost bodies.old.ready.items bodies.new.ready.items) }
+    ensures ready { OnOk result (GotTop bodies.old.tasks.items bodies.old.ready.items bodies.new.ready.items) }
     ensures over { OnOk result (IsCut bodies.old.over.items bodies.new.over.items) }
     ensures reuse { OnOk result (StoodOrAlone bodies.old.tasks.items bodies.new.tasks.items served) }
 {
@@ -465,7 +465,9 @@ pub fn repeat(
     requires sound { IsSound (code_program code.now limits.now) }
     requires own { IsOwn entry.now.what }
     requires may { MayReplay (code_program code.now limits.now) (StandsAfter code.now limits.now bodies.old) entry.now }
-    ensures { IfOk result (λ _. Replayed (code_program code.now limits.now) (StandsAfter code.now limits.now bodies.old) (StandsAfter code.now limits.now bodies.new) entry.now) }
+    ensures replayed { IfOk result (λ _. Replayed (code_program code.now limits.now) (StandsAfter code.now limits.now bodies.old) (StandsAfter code.now limits.now bodies.new) entry.now) }
+    ensures ready { OnOk result (bodies.new.ready.items ≡ bodies.old.ready.items) }
+    ensures tasks { OnOk result (length bodies.new.tasks.items ≡ length bodies.old.tasks.items) }
 {
     let at = home_of(&bodies.homes, entry.body);
     let _ = make(alloc, code, limits, bodies, at, entry.number)?;

@@ -75,7 +75,7 @@ impl<'a> Playable for CodePlay<'a> {
     ghost use Rattle.std.specs.Prelude.{◌≡◌, ◌<◌, ◌++◌, length, reverse, slice_get, take, Some, IfOk, OnOk};
     ghost use Rattle.chord_base.specs.Bodies.{served_among};
     ghost use Rattle.chord_code.specs.Meaning.{code_program, method_is_sync};
-    ghost use Rattle.chord_lists.specs.CodeStands.{StandsAfter, StoodOrAlone, IsCut, HasOneMoreAtMost};
+    ghost use Rattle.chord_lists.specs.CodeStands.{StandsAfter, StoodOrAlone, IsCut, GotTop, over_behind};
     ghost use Rattle.chord_lists.specs.Engine.{MayGoOn, Went, MayBegin, Began};
 
     type Bodies = CodeBodies;
@@ -96,7 +96,7 @@ impl<'a> Playable for CodePlay<'a> {
         ensures went { IfOk result (λ turn. Went (code_program self.now.code.now self.now.limits.now) (StandsAfter self.now.code.now self.now.limits.now bodies.old) (StandsAfter self.now.code.now self.now.limits.now bodies.new) number turn) }
         ensures cut { OnOk result (IsCut bodies.old.ready.items bodies.new.ready.items) }
         ensures top { OnOk result (bodies.new.homes.items ≡ bodies.old.homes.items ++ take 1 (reverse bodies.new.ready.items)) }
-        ensures over { OnOk result (HasOneMoreAtMost bodies.old.over.items bodies.new.over.items) }
+        ensures over { OnOk result (reverse bodies.new.over.items ≡ over_behind bodies.new.tasks.items (slice_get (reverse bodies.new.ready.items) 0) (reverse bodies.old.over.items)) }
         ensures tasks { OnOk result (length bodies.new.tasks.items ≡ length bodies.old.tasks.items) }
     {
         let turn = go_on(alloc, self.code, self.limits, bodies, number)?;
@@ -118,7 +118,7 @@ impl<'a> Playable for CodePlay<'a> {
         requires may { MayBegin (code_program self.now.code.now self.now.limits.now) (StandsAfter self.now.code.now self.now.limits.now bodies.old) number chord object members.old }
         ensures began { IfOk result (λ _. Began (code_program self.now.code.now self.now.limits.now) (StandsAfter self.now.code.now self.now.limits.now bodies.old) (StandsAfter self.now.code.now self.now.limits.now bodies.new) number chord object members.old) }
         ensures top { OnOk result (bodies.new.homes.items ≡ bodies.old.homes.items ++ take 1 (reverse bodies.new.ready.items)) }
-        ensures ready { OnOk result (HasOneMoreAtMost bodies.old.ready.items bodies.new.ready.items) }
+        ensures ready { OnOk result (GotTop bodies.old.tasks.items bodies.old.ready.items bodies.new.ready.items) }
         ensures over { OnOk result (IsCut bodies.old.over.items bodies.new.over.items) }
         ensures reuse { OnOk result (StoodOrAlone bodies.old.tasks.items bodies.new.tasks.items (served_among (method_is_sync self.now.code.now object.class) methods.now members.old)) }
     {

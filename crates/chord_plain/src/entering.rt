@@ -67,7 +67,7 @@ pub(crate) fn body_in(
                 below: Vec::new(alloc),
                 turns: limits.turns,
                 awaited: Awaited::ForNothing,
-                spare: None,
+                builder: None,
                 limits: *limits,
             })),
         },

@@ -1,6 +1,6 @@
 //! Where workers crowd at the counter, one that draws less than its share stands aside for a moment. No clause rests on it.
-ghost use Rattle.std.specs.Prelude.{◌≡◌};
-ghost use Rattle.chord_roll.specs.Cards.{counts, ended, stops, IsSameCard};
+ghost use Rattle.std.specs.Prelude.{◌≡◌, ◌≤◌, ◌+◌};
+ghost use Rattle.chord_roll.specs.Cards.{counts, ended, reads, stops, times_asked, IsSameCard};
 
 use chord_roll::Card;
 use chord_worker::Worker;
@@ -66,6 +66,8 @@ impl Crowd {
     pub(crate) fn stand_aside<R: Wait>(&mut self, rt: &R, worker: &Worker, card: &mut Card)
         ensures card { IsSameCard card.old card.new × (counts card.new ≡ counts card.old) × (stops card.new ≡ stops card.old) }
         ensures ended { ended card.new ≡ ended card.old }
+        ensures reads { reads card.new ≤ reads card.old + 2 }
+        ensures asked { times_asked card.new ≡ times_asked card.old }
     {
         let (mine, all) = self.catch_up(worker);
         let (mine, all) = (mine as u64, all as u64);

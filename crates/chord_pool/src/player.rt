@@ -489,6 +489,8 @@ impl Player {
         ensures between { IsBetweenRounds self.old self.new }
         ensures same { self.new.failed ≡ self.old.failed }
         ensures card { IsSameCard self.old.card self.new.card × (stops self.new.card ≡ stops self.old.card) }
+        ensures reads { reads self.new.card ≤ reads self.old.card + 2 }
+        ensures asked { times_asked self.new.card ≡ times_asked self.old.card }
     {
         crowd.stand_aside(rt, &self.worker, &mut self.card);
     }

@@ -1,5 +1,5 @@
 -- The frames in stock, and those of bodies that have ended, once an ask became an entry.
-use Rattle.std.proofs.Common.{◌≡◌, true, false, Option, Some, sym, ap, ◌∙◌, subst, Box, Global}
+use Rattle.std.proofs.Common.{◌≡◌, true, false, Option, None, Some, refl, sym, ap, ◌∙◌, subst, Box, Global}
 use Rattle.chord_base.specs.declared.event.End.{End}
 use Rattle.chord_base.specs.declared.event.What.{What}
 use Rattle.chord_base.specs.Printed.{is_end}
@@ -11,8 +11,8 @@ use Rattle.chord_task.specs.declared.body.Body.{Body}
 use Rattle.chord_task.specs.declared.task.Task.{Task}
 use Rattle.chord_base.specs.declared.event.Limits.{Limits}
 use Rattle.chord_vm.specs.declared.frames.Frames.{Frames}
-use Rattle.chord_task.specs.Standing.{IsRoomierTop, IsStocked, KeepsList, KeepsStock, KeepsFrames, SettlesFrames, WasStocked}
-use Rattle.chord_task.proofs.Turning.{with_body}
+use Rattle.chord_task.specs.Standing.{body_number, IsRoomierTop, IsStocked, KeepsList, KeepsStock, KeepsFrames, SettlesFrames, WasStocked}
+use Rattle.chord_task.proofs.Turning.{with_body, with_frames}
 
 -- an entry that is no end leaves the frames as they were
 pub kept_on : (w : What) (before after : Task) → is_end w ≡ false → after.values ≡ before.values → after.spare ≡ before.spare → after.ended ≡ before.ended → KeepsFrames w before after
@@ -49,23 +49,33 @@ settles_on code t s t' o a b put goes_on e roomier stocked list values spare end
 pub settles_end : (code : Parts) (t s t' : Task) (o : Option Ask) (a : Ask) (x : End) → o ≡ Some (ask.End x) → o ≡ Some a → IsRoomierTop t.top s.top → IsStocked code t.limits t.spare t.ended s.spare s.ended → KeepsList t.values s.values → t'.values ≡ s.values → t'.spare ≡ s.spare → ((b : Body) → s.top ≡ Some b → t'.ended ≡ Some b.frames) → SettlesFrames code t (what_of_ask a) t'
 settles_end code t s t' o a x put e roomier stocked list values spare ended = record { between = s; roomier = roomier; stocked = stocked; list = list; kept = keeps_ended (what_of_ask a) s t' (end_of o a (ask.End x) put e) values spare ended }
 
--- the ask of another body on top was settled
-pub settled_stock : (code : Parts) (t t' : Task) (b : Body) (w : What) → SettlesFrames code (with_body t b) w t' → WasStocked code t t'
-settled_stock code t t' b w x =
+-- more room, and the number of the body on top
+top_stays : (o o' : Option Body) → IsRoomierTop o o' → body_number o' ≡ body_number o
+top_stays None None r = refl
+top_stays (Some b) (Some b') r = ap Some r.0
+top_stays None (Some b') r = absurd r
+top_stays (Some b) None r = absurd r
+
+-- the ask of the body on top was settled, whose frames ran on
+pub settled_stock : (code : Parts) (t t' : Task) (b : Body) (f : Box Frames Global) (w : What) → t.top ≡ Some b → SettlesFrames code (with_body t (with_frames b f)) w t' → WasStocked code t w t'
+settled_stock code t t' b f w is x =
     record {
-      list = λ some. x.kept.values ∙ x.list some;
-      ended = x.between.ended;
-      stocked = subst (λ (z : Option (Box Frames Global)). IsStocked code t.limits t.spare t.ended z x.between.ended) (sym x.kept.spare) x.stocked;
+      between = x.between;
+      top = top_stays (Some (with_frames b f)) x.between.top x.roomier ∙ sym (ap body_number is);
+      stocked = x.stocked;
+      list = x.list;
+      kept = x.kept;
     }
 
--- frames and a list were seen to in a task whose frames and list were as they are, and then kept
-pub kept_stock : (code : Parts) (t r s t' : Task) → r.limits ≡ t.limits → KeepsStock t r → IsStocked code r.limits r.spare r.ended s.spare s.ended → KeepsList r.values s.values → t'.values ≡ s.values → t'.spare ≡ s.spare → WasStocked code t t'
-kept_stock code t r s t' limited same x list values spare =
+-- frames and a list were seen to in a task whose frames and list were as they are, before its ask became an entry
+pub kept_stock : (code : Parts) (t r s t' : Task) (w : What) → r.limits ≡ t.limits → KeepsStock t r → body_number s.top ≡ body_number t.top → IsStocked code r.limits r.spare r.ended s.spare s.ended → KeepsList r.values s.values → KeepsFrames w s t' → WasStocked code t w t'
+kept_stock code t r s t' w limited same top x list kept =
     let under : IsStocked code t.limits r.spare r.ended s.spare s.ended = subst (λ (l : Limits). IsStocked code l r.spare r.ended s.spare s.ended) limited x in
     let from : IsStocked code t.limits t.spare r.ended s.spare s.ended = subst (λ (z : Option (Box Frames Global)). IsStocked code t.limits z r.ended s.spare s.ended) same.0 under in
-    let from' : IsStocked code t.limits t.spare t.ended s.spare s.ended = subst (λ (z : Option (Box Frames Global)). IsStocked code t.limits t.spare z s.spare s.ended) same.1 from in
     record {
-      list = λ some. values ∙ list (λ none. some (sym same.2 ∙ none)) ∙ same.2;
-      ended = s.ended;
-      stocked = subst (λ (z : Option (Box Frames Global)). IsStocked code t.limits t.spare t.ended z s.ended) (sym spare) from';
+      between = s;
+      top = top;
+      stocked = subst (λ (z : Option (Box Frames Global)). IsStocked code t.limits t.spare z s.spare s.ended) same.1 from;
+      list = λ some. list (λ none. some (sym same.2 ∙ none)) ∙ same.2;
+      kept = kept;
     }

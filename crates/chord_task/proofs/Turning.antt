@@ -17,7 +17,7 @@ use Rattle.chord_code.proofs.Asks.{run_asked}
 use Rattle.chord_vm.specs.declared.frames.Frames.{Frames}
 use Rattle.chord_vm.specs.declared.ask.Ask.{Ask}
 use Rattle.chord_vm.specs.declared.ask.Ask.TheVariants as ask
-use Rattle.chord_vm.specs.Frames.{machine_of, waiting_of, what_of_ask, Advanced}
+use Rattle.chord_vm.specs.Frames.{machine_of, waiting_of, what_of_ask, Advanced, KeepsRoom}
 use Rattle.chord_task.specs.declared.body.Next.{Next}
 use Rattle.chord_task.specs.declared.body.Next.TheVariants as nexts
 use Rattle.chord_task.specs.declared.body.Body.{Body}
@@ -172,7 +172,7 @@ roomy code t s n w b a m past below top spare values limits ready is =
     let r = roomier_top t.top s.top a.body a.on_top top in
     let e : r.0 ≡ b = same_body r.0 b (sym r.1 ∙ is) in
     let q : IsRoomier a.body b = subst (λ (z : Body). IsRoomier a.body z) e r.2 in
-    let q' : IsRoomier a.asked (with_next b a.asked.next) = (q.0 ∙ sym a.number, refl, q.2 ∙ sym (ap (λ (x : Box Frames Global). machine_of x.value) a.frames), q.3 ∙ sym (ap (λ (x : Box Frames Global). x.value.awaited) a.frames)) in
+    let q' : IsRoomier a.asked (with_next b a.asked.next) = (q.0 ∙ sym a.number, refl, q.2 ∙ sym (ap (λ (x : Box Frames Global). machine_of x.value) a.frames), q.3 ∙ sym (ap (λ (x : Box Frames Global). x.value.awaited) a.frames), subst (λ (x : Box Frames Global). KeepsRoom x.value b.frames.value) (sym a.frames) q.4) in
     let k0 = task_roomier code t.limits (with_body t a.asked) s.past s.below (Some a.asked) (Some (with_next b a.asked.next)) s.spare s.ended s.values s.enclosed refl a.task (given_goes w a.asked.next a.given) past below q' spare values in
     let k : IsTaskOf code t.limits (with_body s (with_next b a.asked.next)) = subst (λ l. IsTaskOf code t.limits (record { past = s.past; top = Some (with_next b a.asked.next); below = s.below; spare = s.spare; ended = s.ended; values = s.values; limits = l; enclosed = s.enclosed })) (sym limits) k0 in
     let h : (view_of s).past ≡ (view_of t).past = ap reverse past in

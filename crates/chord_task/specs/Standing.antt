@@ -19,7 +19,7 @@ use Rattle.chord_code.specs.Machine.{Machine, Asking, with_answer, ComesToAsk, I
 use Rattle.chord_code.specs.Fuel.{comes_to}
 use Rattle.chord_code.specs.Meaning.{Point, At, FailsBy, code_program, stands, asked_of}
 use Rattle.chord_vm.specs.declared.frames.Frames.{Frames}
-use Rattle.chord_vm.specs.Frames.{machine_of, waiting_of, what_of_ask, Advanced, IsReady, IsRoomFor}
+use Rattle.chord_vm.specs.Frames.{machine_of, waiting_of, what_of_ask, Advanced, IsReady, IsRoomFor, KeepsRoom}
 use Rattle.chord_vm.specs.declared.ask.Ask.{Ask}
 use Rattle.chord_task.specs.Arguments.{IsList, MayBeList}
 use Rattle.chord_base.specs.Printed.{is_end}
@@ -362,9 +362,9 @@ abbrev pub room_of : Limits → Option Body → ℕ
 room_of limits None = limits.depth - 1
 room_of limits (Some b) = limits.depth - ((limits.depth - b.frames.value.top.room) + 1)
 
--- the body on top with more room, and the same state
+-- the body on top with more room, where there was none, and the same state
 abbrev pub IsRoomier : Body → Body → Type 0
-IsRoomier b b' = (b'.number ≡ b.number) × (b'.next ≡ b.next) × (machine_of b'.frames.value ≡ machine_of b.frames.value) × (b'.frames.value.awaited ≡ b.frames.value.awaited)
+IsRoomier b b' = (b'.number ≡ b.number) × (b'.next ≡ b.next) × (machine_of b'.frames.value ≡ machine_of b.frames.value) × (b'.frames.value.awaited ≡ b.frames.value.awaited) × KeepsRoom b.frames.value b'.frames.value
 
 -- the body on top, if there is one, with more room
 abbrev pub IsRoomierTop : Option Body → Option Body → Type 0
@@ -410,8 +410,10 @@ pub record SettlesFrames (code : Parts) (before : Task) (w : What) (after : Task
   pub list : KeepsList before.values between.values
   pub kept : KeepsFrames w between after
 
--- frames for the next body were seen to before the entry that was added, and a list of values that was there stays
-pub record WasStocked (code : Parts) (before after : Task) : Type 0 where
-  pub list : KeepsList before.values after.values
-  pub ended : Option (Box Frames Global)
-  pub stocked : IsStocked code before.limits before.spare before.ended after.spare ended
+-- frames for the next body were seen to, with the same body on top, and then this ask became an entry
+pub record WasStocked (code : Parts) (before : Task) (w : What) (after : Task) : Type 0 where
+  pub between : Task
+  pub top : body_number between.top ≡ body_number before.top
+  pub stocked : IsStocked code before.limits before.spare before.ended between.spare between.ended
+  pub list : KeepsList before.values between.values
+  pub kept : KeepsFrames w between after

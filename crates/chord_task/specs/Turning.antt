@@ -21,7 +21,7 @@ use Rattle.chord_task.specs.declared.body.Next.TheVariants as nexts
 use Rattle.chord_task.specs.declared.body.Body.{Body}
 use Rattle.chord_task.specs.declared.task.Task.{Task}
 use Rattle.chord_task.specs.Stacks.{TaskView, IsNext, StaysDefined, task_noted}
-use Rattle.chord_task.specs.Standing.{view_of, IsTaskOf, GivenBy, HasMadeRoom}
+use Rattle.chord_task.specs.Standing.{view_of, IsTaskOf, GivenBy, HasMadeRoom, WasStocked}
 
 -- what is known of an ask before it becomes the entry of this number
 pub record MayTurn (p : Program) (t : TaskView) (n : ℕ) : Type 0 where
@@ -50,9 +50,9 @@ abbrev pub sent_of : Option What → Option (Object × ℕ)
 sent_of None = None
 sent_of (Some w) = sent_to w
 
--- its next ask became the entry of this number, and this is what its message is to
+-- its next ask became the entry of this number, this is what its message is to, and frames for the next body were seen to
 abbrev pub HasTurned : Parts → Limits → Task → Task → ℕ → Option (Object × ℕ) → Type 0
-HasTurned code limits before after n sent = (w : What) × Turned code limits before after n w × (sent ≡ sent_to w)
+HasTurned code limits before after n sent = (w : What) × Turned code limits before after n w × (sent ≡ sent_to w) × WasStocked code before w after
 
 -- the frames of a body run
 abbrev pub RunsOn : Option Body → Type 0

@@ -6,6 +6,7 @@ ghost use Rattle.chord_base.specs.declared.event.Limits.{Limits as TheLimits};
 ghost use Rattle.chord_base.specs.declared.event.What.{What as AWhat};
 ghost use Rattle.chord_base.specs.Printed.{is_end};
 ghost use Rattle.chord_code.specs.declared.parts.Parts.{Parts};
+ghost use Rattle.chord_code.specs.Slots.{IsMostSlots};
 ghost use Rattle.chord_code.specs.Meaning.{code_program, chord_lines};
 ghost use Rattle.chord_vm.specs.declared.frames.Frames.{Frames as TheFrames};
 ghost use Rattle.chord_vm.specs.Frames.{IsAlwaysCopied, laid, what_of_ask};
@@ -86,7 +87,8 @@ pub(crate) fn depth_over(depth: u32, top: &Option<Body>) -> u32
 
 /// New frames with room for each block. They lie in a box, so that a body, a task and a parcel are small where they are moved.
 fn new_frames(alloc: Global, code: &Code, limits: &Limits) -> Result<Box<Frames>, AllocError>
-    ensures { IfOk result (λ f. IsSpareOf code.now limits.now f.value) }
+    ensures spare { IfOk result (λ f. IsSpareOf code.now limits.now f.value) }
+    ensures lean { IfOk result (λ f. IsMostSlots code.now.blocks (vec_capacity f.value.top.slots)) }
 {
     let frames = spare_frames(alloc, code, limits)?;
     let boxed = Box::new(alloc, frames)?;
@@ -184,6 +186,7 @@ fn reserve_values(alloc: Global, values: &mut Option<Vec<Value>>) -> Result<(), 
     ensures kept { MayBeList values.new }
     ensures some { OnOk result (IsList values.new) }
     ensures stays { KeepsList values.old values.new }
+    ensures lean { OnOk result (values.old ≡ None → IsSomeAnd values.new (λ list. vec_capacity list ≡ 64)) }
 {
     if values.is_some() {
         return Ok(());
@@ -363,6 +366,7 @@ impl Task {
         ensures past { IfOk result (λ t. (view_of t).past ≡ []) }
         ensures top { IfOk result (λ t. (view_of t).top ≡ None) }
         ensures room { IfOk result (λ t. IsResumable code.now t) }
+        ensures lean { IfOk result (λ t. (vec_capacity t.below ≡ 1) × IsSomeAnd t.values (λ list. vec_capacity list ≡ 64) × IsSomeAnd t.spare (λ f. IsMostSlots code.now.blocks (vec_capacity f.value.top.slots))) }
     {
         let _parts = code.parts();
         let below = Vec::with_capacity(alloc, 1)?;

@@ -7,7 +7,7 @@ ghost use Rattle.chord_code.specs.Meaning.{code_program};
 ghost use Rattle.chord_vm.specs.Frames.{what_of_ask};
 ghost use Rattle.chord_task.specs.declared.body.Body.{Body as ABody};
 ghost use Rattle.chord_task.specs.declared.task.Task.{Task as ATask};
-ghost use Rattle.chord_task.specs.Standing.{view_of, IsTaskOf, is_ready_of, given_by, LastIsReady, HasReturned, HasRoomFor, HasMadeRoom, LosesNothing, WasStocked, SettlesFrames};
+ghost use Rattle.chord_task.specs.Standing.{view_of, IsTaskOf, is_ready_of, given_by, LastIsReady, HasReturned, HasRoomFor, HasMadeRoom, LosesNothing, SettlesFrames};
 ghost use Rattle.chord_task.specs.Arguments.{MayBeList};
 ghost use Rattle.chord_task.specs.Past.{AddsOne};
 ghost use Rattle.chord_task.specs.Turning.{sent_to, sent_of, MayTurn, HasTurned, RunsOn, HasSettled, AwaitsNumber, text_of_end, text_of_ask, AreBare, IsBareEnd, OwnsNothing};
@@ -277,7 +277,6 @@ impl Task {
         requires may { MayTurn (code_program code.now limits.now) (view_of self.old) number }
         ensures turned { IfOk result (λ sent. HasTurned code.now limits.now self.old self.new number sent) }
         ensures listed { OnOk result (AddsOne self.old.past self.new.past list.old.items list.new.items) }
-        ensures stocked { OnOk result (WasStocked code.now self.old self.new) }
     {
         if self.runs() {
             return self.run_turn(alloc, code, limits, number, list);
@@ -329,7 +328,6 @@ impl Task {
         requires may { MayTurn (code_program code.now limits.now) (view_of self.old) number }
         ensures turned { IfOk result (λ sent. HasTurned code.now limits.now self.old self.new number sent) }
         ensures listed { OnOk result (AddsOne self.old.past self.new.past list.old.items list.new.items) }
-        ensures stocked { OnOk result (WasStocked code.now self.old self.new) }
     {
         self.prepare(alloc, code, limits)?;
         self.reserve(alloc, code, list)?;
@@ -352,7 +350,6 @@ impl Task {
         requires may { MayTurn (code_program code.now limits.now) (view_of self.old) number }
         ensures turned { IfOk result (λ sent. HasTurned code.now limits.now self.old self.new number sent) }
         ensures listed { OnOk result (AddsOne self.old.past self.new.past list.old.items list.new.items) }
-        ensures stocked { OnOk result (WasStocked code.now self.old self.new) }
     {
         match &mut self.top {
             None => unreachable!(),

@@ -131,7 +131,14 @@ IsReady ForNothing f = Unit {0}
 IsReady ForValue f = vec_len f.top.stack < vec_capacity f.top.stack
 IsReady (ForObject None n) f = vec_len f.top.stack < vec_capacity f.top.stack
 IsReady (ForObject (Some b) n) f =
-    (vec_len f.top.stack < vec_capacity f.top.stack) × (vec_len f.below < vec_capacity f.below) × HasRoom f.spare b.1
+    (vec_len f.top.stack < vec_capacity f.top.stack) × (vec_len f.below < vec_capacity f.below) × HasRoom f.builder b.1
+
+-- slots and limits are as they were, and so are operands and blocks that wait, where there was room for one more
+pub record KeepsRoom (before after : Frames) : Type 0 where
+  pub operands : vec_len before.top.stack < vec_capacity before.top.stack → after.top.stack ≡ before.top.stack
+  pub blocks : vec_len before.below < vec_capacity before.below → after.below ≡ before.below
+  pub slots : after.top.slots ≡ before.top.slots
+  pub limits : after.limits ≡ before.limits
 
 -- the n last values of one list went to the end of another
 abbrev pub IsMoved : ℕ → List Value → List Value → List Value → List Value → Type 0

@@ -2,9 +2,9 @@
 #![tactic(auto)]
 
 ghost use Rattle.std.specs.Prelude.{◌≡◌, ◌≢◌, suc, ◌+◌, ◌-◌, ◌^◌, ◌<◌, ◌≤◌, true, false, List, [], ◌∷◌, ◌++◌, IfOk, IsOk, OnOk, All, Some, None, length, slice_get, vec_len, vec_capacity, reverse, replicate};
-ghost use Rattle.chord_code.specs.Slots.{first_slots};
+ghost use Rattle.chord_code.specs.Slots.{first_slots, IsMostSlots};
 ghost use Rattle.chord_code.specs.Machine.{body_in_block, with_answer, with_object, pops};
-ghost use Rattle.chord_vm.specs.Frames.{shown_frame, machine_of, frame_with, IsAlwaysCopied, IsSpacious, IsReady, HasRoom, IsMoved, IsRoomFor, laid};
+ghost use Rattle.chord_vm.specs.Frames.{shown_frame, machine_of, frame_with, IsAlwaysCopied, IsSpacious, IsReady, HasRoom, KeepsRoom, IsMoved, IsRoomFor, laid};
 
 use chord_base::event::Limits;
 use chord_base::hand::Hand;
@@ -41,7 +41,7 @@ pub struct Frames {
     /// What an ask waits for.
     pub awaited: Awaited,
     /// Room for a builder's frame.
-    pub spare: Option<Frame>,
+    pub builder: Option<Frame>,
     /// The limits for which the frames were made.
     pub limits: Limits,
 }
@@ -50,6 +50,8 @@ pub struct Frames {
 pub fn spare(alloc: Global, code: &Code, limits: &Limits) -> Result<Frames, AllocError>
     ensures room { IfOk result (λ frames. IsRoomFor code.now frames) }
     ensures limits { IfOk result (λ frames. frames.limits ≡ limits.now) }
+    ensures lean { IfOk result (λ frames. IsMostSlots code.now.blocks (vec_capacity frames.top.slots)) }
+    ensures bare { IfOk result (λ frames. (vec_capacity frames.top.stack ≡ 0) × (vec_capacity frames.below ≡ 0) × (frames.builder ≡ None)) }
 {
     let most = code.most_slots() as usize;
     let top = Frame {
@@ -64,7 +66,7 @@ pub fn spare(alloc: Global, code: &Code, limits: &Limits) -> Result<Frames, Allo
         below: Vec::new(alloc),
         turns: 0,
         awaited: Awaited::ForNothing,
-        spare: None,
+        builder: None,
         limits: *limits,
     })
 }
@@ -92,7 +94,8 @@ pub fn can_begin(code: &Code, limits: &Limits, frames: &Frames) -> bool
 pub(crate) fn push_reserved(frame: &mut Frame, value: Value)
     requires fits { frame.old.place + 1 < 2 ^ 64 }
     requires room { vec_len frame.old.stack < vec_capacity frame.old.stack }
-    ensures { shown_frame frame.new ≡ frame_with (shown_frame frame.old) (suc frame.old.place) (value ∷ (shown_frame frame.old).stack) (shown_frame frame.old).slots }
+    ensures pushed { shown_frame frame.new ≡ frame_with (shown_frame frame.old) (suc frame.old.place) (value ∷ (shown_frame frame.old).stack) (shown_frame frame.old).slots }
+    ensures capacity { vec_capacity frame.new.stack ≡ vec_capacity frame.old.stack }
 {
     frame.stack.push_reserved(value);
     frame.place += 1;
@@ -108,11 +111,12 @@ fn grow(frame: &mut Frame) -> Result<(), AllocError>
     Ok(())
 }
 
-/// Pushes a value, and goes to the next instruction.
+/// Pushes a value, and goes to the next instruction. Where there is room for it, no memory is taken.
 #[inline(always)]
 pub(crate) fn push(frame: &mut Frame, value: Value) -> Result<(), AllocError>
     requires { frame.old.place + 1 < 2 ^ 64 }
-    ensures { OnOk result (shown_frame frame.new ≡ frame_with (shown_frame frame.old) (suc frame.old.place) (value ∷ (shown_frame frame.old).stack) (shown_frame frame.old).slots) }
+    ensures pushed { OnOk result (shown_frame frame.new ≡ frame_with (shown_frame frame.old) (suc frame.old.place) (value ∷ (shown_frame frame.old).stack) (shown_frame frame.old).slots) }
+    ensures stays { vec_len frame.old.stack < vec_capacity frame.old.stack → (IsOk result) × (vec_capacity frame.new.stack ≡ vec_capacity frame.old.stack) }
 {
     if frame.stack.len() == frame.stack.capacity() {
         grow(frame)?;
@@ -356,11 +360,12 @@ pub fn begin_with(
     Ok(())
 }
 
-/// Takes the room that the next answer needs. Where there is none the body is as it was.
+/// Takes the room that the next answer needs, where there is none yet. Where no memory is found the body is as it was.
 #[inline(always)]
 pub fn reserve(alloc: Global, frames: &mut Frames) -> Result<(), AllocError>
     ensures same { (machine_of frames.new ≡ machine_of frames.old) × (frames.new.awaited ≡ frames.old.awaited) }
     ensures ready { OnOk result (IsReady frames.new.awaited frames.new) }
+    ensures kept { KeepsRoom frames.old frames.new }
 {
     if frames.top.stack.len() == frames.top.stack.capacity() {
         frames.top.stack.reserve(1)?;
@@ -376,10 +381,15 @@ pub fn reserve(alloc: Global, frames: &mut Frames) -> Result<(), AllocError>
 fn reserve_builder(alloc: Global, frames: &mut Frames, slots: u32) -> Result<(), AllocError>
     requires stack { vec_len frames.old.top.stack < vec_capacity frames.old.top.stack }
     ensures same { (machine_of frames.new ≡ machine_of frames.old) × (frames.new.awaited ≡ frames.old.awaited) }
-    ensures ready { OnOk result ((vec_len frames.new.top.stack < vec_capacity frames.new.top.stack) × (vec_len frames.new.below < vec_capacity frames.new.below) × HasRoom frames.new.spare slots) }
+    ensures ready { OnOk result ((vec_len frames.new.top.stack < vec_capacity frames.new.top.stack) × (vec_len frames.new.below < vec_capacity frames.new.below) × HasRoom frames.new.builder slots) }
+    ensures top { frames.new.top ≡ frames.old.top }
+    ensures stays { vec_len frames.old.below < vec_capacity frames.old.below → frames.new.below ≡ frames.old.below }
+    ensures limits { frames.new.limits ≡ frames.old.limits }
 {
-    frames.below.reserve(1)?;
-    frames.spare = Some(Frame {
+    if frames.below.len() == frames.below.capacity() {
+        frames.below.reserve(1)?;
+    }
+    frames.builder = Some(Frame {
         block: 0,
         place: 0,
         room: 0,
@@ -425,7 +435,7 @@ fn build(frames: &mut Frames, block: u32, slots: u32, n: u32, object: Object)
     requires fits { with_object (machine_of frames.old) (Some (block, slots)) object (pops n [] (machine_of frames.old).top.stack) ≢ None }
     ensures { with_object (machine_of frames.old) (Some (block, slots)) object (pops n [] (machine_of frames.old).top.stack) ≡ Some (machine_of frames.new) }
 {
-    match frames.spare.take() {
+    match frames.builder.take() {
         None => unreachable!(),
         Some(mut fresh) => {
             let this = Value::Ref(object);

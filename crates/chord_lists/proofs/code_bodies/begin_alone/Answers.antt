@@ -69,7 +69,7 @@ returns-clause-began c =
     c.in_ok-push.ensures.items
     (ap reverse c.in_ok-push-2.ensures.items ∙ reverse-append c.args.bodies.now.ready.items (c.place_after-at.result ∷ []) ∙ ap (λ i. i ∷ reverse c.args.bodies.now.ready.items) at)
     refl
-    (c.in_ok-push-3.ensures.items ∙ ap (λ i. c.args.bodies.now.homes.items ++ i ∷ []) (c.place_of.ensures ∙ at))
+    (c.in_ok-push-3.ensures.items ∙ ap (λ i. c.args.bodies.now.homes.items ++ i ∷ []) (c.as_home.ensures ∙ at))
 
 pub returns-clause-ready : goal.returns-clause-ready
 returns-clause-ready c =

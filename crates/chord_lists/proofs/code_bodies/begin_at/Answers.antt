@@ -78,16 +78,16 @@ returns-clause-began c =
     fired_at code limits c.args.bodies.now _ h c.args.at c.args.number c.args.chord c.args.object c.args.members.now vs c.resume_with.new.self played s f k task past c.in_ok-resume_with.ensures.top entries
     refl
     c.in_ok-put_ready.ensures refl
-    (c.in_ok-push.ensures.items ∙ ap (λ i. c.args.bodies.now.homes.items ++ i ∷ []) c.place_of.ensures)
+    (c.in_ok-push.ensures.items ∙ ap (λ i. c.args.bodies.now.homes.items ++ i ∷ []) c.as_home.ensures)
 
 pub returns-clause-top : goal.returns-clause-top
 returns-clause-top c =
     let homes = c.args.bodies.now.homes.items in
     let first = ap (λ (z : List ℕ). take 1 z) c.in_ok-put_ready.ensures ∙ topped_first c.args.at (reverse c.args.bodies.now.ready.items) in
-    c.in_ok-push.ensures.items ∙ ap (λ i. homes ++ i ∷ []) c.place_of.ensures ∙ ap (λ z. homes ++ z) (sym first)
+    c.in_ok-push.ensures.items ∙ ap (λ i. homes ++ i ∷ []) c.as_home.ensures ∙ ap (λ z. homes ++ z) (sym first)
 
-pub place_of-requires : goal.place_of-requires
-place_of-requires c =
+pub as_home-requires : goal.as_home-requires
+as_home-requires c =
     let m = c.requires.may in
     let k = host c.args.code.now c.args.limits.now c.args.bodies.now m.0 c.args.at c.args.number c.args.chord c.args.object c.args.members.now m.1 c.requires.sound m.3 m.2.so_long m.4 c.requires.fits in
     let l = slice_get_within c.args.bodies.now.tasks.items c.args.at k.task k.there in

@@ -1,9 +1,9 @@
-use Rattle.std.proofs.Common.{◌∙◌, ap, length, Some}
+use Rattle.std.proofs.Common.{◌∙◌, ap, refl, length, inl, inr, Some}
 use Rattle.chord_lists.specs.CodeStands.{home}
 use Rattle.chord_lists.proofs.CodeFiring.{caller, call_served}
 use Rattle.chord_lists.proofs.CodeOver.{stands_over, stands_later}
 use Rattle.chord_lists.proofs.OverTasks.{none_over}
-use Rattle.chord_lists.proofs.Gaining.{one_came, topped_gains, none_went, last_went, all_went}
+use Rattle.chord_lists.proofs.Gaining.{none_went, last_went, all_went}
 use Rattle.chord_lists.proofs.code_bodies.begin_body.Goals as goal
 
 pub home_of-at-requires : goal.home_of-at-requires
@@ -60,15 +60,15 @@ returns-in_ok-begin_alone-in-None-next_over-clause-began c =
 
 pub returns-in_ok-begin_at-in-Some-clause-ready : goal.returns-in_ok-begin_at-in-Some-clause-ready
 returns-in_ok-begin_at-in-Some-clause-ready c =
-    topped_gains c.home_of-at.result c.args.bodies.now.ready.items c.begin_at.new.bodies.ready.items c.in_ok-begin_at-in-Some.ensures.ready
+    (c.home_of-at.result, inl c.in_ok-begin_at-in-Some.ensures.ready)
 
 pub returns-in_ok-begin_at-in-Some-next_over-clause-ready : goal.returns-in_ok-begin_at-in-Some-next_over-clause-ready
 returns-in_ok-begin_at-in-Some-next_over-clause-ready c =
-    topped_gains c.in-Some-next_over.at c.args.bodies.now.ready.items c.begin_at-in-Some-next_over.new.bodies.ready.items c.in_ok-begin_at-in-Some-next_over.ensures.ready
+    (c.in-Some-next_over.at, inl c.in_ok-begin_at-in-Some-next_over.ensures.ready)
 
 pub returns-in_ok-begin_alone-in-None-next_over-clause-ready : goal.returns-in_ok-begin_alone-in-None-next_over-clause-ready
 returns-in_ok-begin_alone-in-None-next_over-clause-ready c =
-    one_came (length c.args.bodies.now.tasks.items) c.args.bodies.now.ready.items c.begin_alone.new.bodies.ready.items c.in_ok-begin_alone-in-None-next_over.ensures.ready
+    (length c.args.bodies.now.tasks.items, inr (refl, c.in_ok-begin_alone-in-None-next_over.ensures.ready))
 
 pub returns-in_ok-begin_at-in-Some-clause-over : goal.returns-in_ok-begin_at-in-Some-clause-over
 returns-in_ok-begin_at-in-Some-clause-over c =

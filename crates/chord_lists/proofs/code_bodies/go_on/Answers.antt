@@ -1,6 +1,6 @@
-use Rattle.std.proofs.Common.{refl}
+use Rattle.std.proofs.Common.{◌∙◌, sym, ap, refl, reverse}
+use Rattle.std.specs.Prelude.{slice_get}
 use Rattle.chord_lists.proofs.CodeOver.{stands_ready, went_over}
-use Rattle.chord_lists.proofs.Gaining.{none_came, over_gains}
 use Rattle.chord_lists.proofs.code_bodies.go_on.Goals as goal
 
 pub make-requires-clause-may : goal.make-requires-clause-may
@@ -13,7 +13,9 @@ returns-in-None-clause-went c =
     λ h played s. went_over c.args.code.now c.args.limits.now c.args.bodies.now c.next_ready.new.ready h s (rw (c.in-None.is, c.deref.ensures.value) at c.next_ready.ensures.none) (rw c.deref.ensures.value at c.next_ready.ensures.ready)
 
 pub returns-in-None-clause-over : goal.returns-in-None-clause-over
-returns-in-None-clause-over c = none_came c.args.bodies.now.over.items c.args.bodies.now.over.items refl
+returns-in-None-clause-over c = rw (sym c.next_ready.ensures.top ∙ c.in-None.is) refl
 
 pub returns-in_ok-turn-in-Some-clause-over : goal.returns-in_ok-turn-in-Some-clause-over
-returns-in_ok-turn-in-Some-clause-over c = over_gains c.make.new.bodies.tasks.items c.in-Some.at c.args.bodies.now.over.items c.make.new.bodies.over.items c.in_ok-turn-in-Some.ensures.over
+returns-in_ok-turn-in-Some-clause-over c =
+    let top = ap (λ places. slice_get (reverse places) 0) c.in_ok-turn-in-Some.ensures.ready ∙ sym c.next_ready.ensures.top ∙ c.in-Some.is in
+    rw top c.in_ok-turn-in-Some.ensures.over

@@ -18,8 +18,8 @@ index_mut-task-requires c =
     let l = slice_get_within xs c.args.at t.0 t.1 in
     omega (arith, l)
 
-pub place_of-requires : goal.place_of-requires
-place_of-requires c =
+pub as_home-requires : goal.as_home-requires
+as_home-requires c =
     let xs = c.args.bodies.now.tasks.items in
     let t = ready_task xs c.args.at c.requires.ready in
     let l = slice_get_within xs c.args.at t.0 t.1 in
@@ -65,7 +65,7 @@ returns-clause-went c =
     let w = c.in_ok-sent.ensures.turned in
     let u = subst (λ (x : Task). Turned code limits x c.turn.new.self c.args.number w.0) e w.1 in
     let listed = subst (λ (x : Task). AddsOne x.past c.turn.new.self.past bodies.entries.items c.turn.new.list.items) e c.in_ok-sent.ensures.listed in
-    let homes = c.in_ok-push.ensures.items ∙ ap (λ i. bodies.homes.items ++ i ∷ []) c.place_of.ensures in
+    let homes = c.in_ok-push.ensures.items ∙ ap (λ i. bodies.homes.items ++ i ∷ []) c.as_home.ensures in
     let is = c.turn_to.ensures ∙ ap turn_to w.2 ∙ turn_told w.0 in
     went_at code limits bodies _ h c.args.number c.args.at t.0 c.turn.new.self w.0 c.turn_to.result c.parts-parts.ensures.valid c.requires.sound c.requires.room played s t.1 t.2 u listed homes is refl refl c.in_ok-keep_over.ensures
 

@@ -17,8 +17,8 @@ make-requires-clause-ready c =
     let at : c.home_of-at.result ≡ home c.args.bodies.now.homes.items c.args.entry.now.body = c.home_of-at.ensures ∙ ap (λ z. home z c.args.entry.now.body) c.deref.ensures.value in
     subst (λ i. ready_at c.args.bodies.now.tasks.items i ≡ true) (sym at) (ready_there c.args.bodies.now.tasks.items (home c.args.bodies.now.homes.items c.args.entry.now.body) x.task x.there x.ready)
 
-pub returns : goal.returns
-returns c =
+pub returns-clause-replayed : goal.returns-clause-replayed
+returns-clause-replayed c =
     λ h played s f within.
     let at : c.home_of-at.result ≡ home c.args.bodies.now.homes.items c.args.entry.now.body = c.home_of-at.ensures ∙ ap (λ z. home z c.args.entry.now.body) c.deref.ensures.value in
     made_again c.args.code.now c.args.limits.now c.args.bodies.now c.make.new.bodies h c.args.entry.now c.home_of-at.result c.in_ok-make.field-0 s c.requires.own f at (c.in_ok-make.ensures.went h played s)

@@ -11,7 +11,7 @@ returns-clause-room c = record {
   below = omega (arith, c.in_ok-below.ensures.len, c.in_ok-below.ensures.exact);
   frames = _;
   spare = refl;
-  room = c.in_ok-frames.ensures;
+  room = c.in_ok-frames.ensures.spare;
   values = record { bare = c.in_ok-values.ensures.items; wide = omega (arith, c.in_ok-values.ensures.exact) };
 }
 
@@ -21,8 +21,8 @@ returns-clause-task c =
       below = omega (arith, c.in_ok-below.ensures.len, c.in_ok-below.ensures.exact);
       frames = _;
       spare = refl;
-      room = c.in_ok-frames.ensures;
+      room = c.in_ok-frames.ensures.spare;
       values = record { bare = c.in_ok-values.ensures.items; wide = omega (arith, c.in_ok-values.ensures.exact) };
     })
-    c.in_ok-frames.ensures
+    c.in_ok-frames.ensures.spare
     (record { bare = c.in_ok-values.ensures.items; wide = omega (arith, c.in_ok-values.ensures.exact) })
