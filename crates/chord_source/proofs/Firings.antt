@@ -19,10 +19,11 @@ use Rattle.chord_base.proofs.Waits.{either}
 use Rattle.chord_bodies.specs.Resolved.{MethodOf, ClassOf, ChordOf, Resolved}
 use Rattle.chord_bodies.specs.Planned.{AreConcatenated, gives, if_sync, is_sync_in, ChordIs, IsPlanned}
 use Rattle.chord_code.specs.Laws.{ChordsAreRight}
-use Rattle.chord_code.specs.Runs.{sent, IsDueType, IsFitMessage}
+use Rattle.chord_code.specs.Runs.{sent, IsFitMessage}
 use Rattle.chord_code.proofs.AllGood.{sent_more}
 use Rattle.chord_source.specs.Source.{chord_body, class_chords, class_methods, plan_is_sync}
 use Rattle.chord_source.specs.Laws.{StartFits}
+use Rattle.chord_source.specs.TypedRuns.{IsResultType}
 
 -- values of some types and values of others, joined, have these types joined
 have_types_together : (sig : Signatures) (ts us : List StaticType) (vs ws : List Value) → HaveAll sig ts vs → HaveAll sig us ws → HaveAll sig (ts ++ us) (vs ++ ws)
@@ -94,27 +95,27 @@ module _ (sig : Signatures) (p : Resolved) (plan : IsPlanned sig p) (program : P
         let first : HaveAll sig l.0.parameters t.0 = subst (λ (z : Signature). HaveAll sig z.parameters t.0) (sym same) fits.arguments in
         subst (λ z. HaveAll sig z vs) (sym l.3) (subst (HaveAll sig (l.0.parameters ++ l.1)) (sym t.3) (have_types_together sig l.0.parameters l.1 t.0 t.1 first (arguments_have js ms t.1 l.1 l.4 t.4)))
 
-    -- a firing serves no call, or one whose method gives what the chord's body is to give
-    due_of_firing : (js ms : List ℕ) (vs : List Value) (r : Option StaticType) → gives sig o.class js r → Takes h o js ms vs → (served_among (program.is_sync o.class) js ms ≡ None) ⊎ ServesCall sig h o (program.is_sync o.class) js ms r
-    due_of_firing [] ms vs r g t = inl refl
+    -- a firing serves no call, and the chord's body is to give nothing, or it serves one whose method gives what the body is to give
+    due_of_firing : (js ms : List ℕ) (vs : List Value) (r : Option StaticType) → gives sig o.class js r → Takes h o js ms vs → ((served_among (program.is_sync o.class) js ms ≡ None) × (r ≡ None)) ⊎ ServesCall sig h o (program.is_sync o.class) js ms r
+    due_of_firing [] ms vs r g t = inl (refl, g)
     due_of_firing (j ∷ js) [] vs r g t = absurd t
     due_of_firing (j ∷ js) (i ∷ ms) vs r g t =
         by_kind g.0.is_sync (tells_kind o.class j g.0 g.1) g.2 (λ f. due_of_firing js ms t.1 r f t.4)
       where
         by_kind : (b : Bool) → program.is_sync o.class j ≡ b → if_sync b (r ≡ g.0.result) (gives sig o.class js r)
-            → (gives sig o.class js r → (served_among (program.is_sync o.class) js ms ≡ None) ⊎ ServesCall sig h o (program.is_sync o.class) js ms r)
-            → (served_among (program.is_sync o.class) (j ∷ js) (i ∷ ms) ≡ None) ⊎ ServesCall sig h o (program.is_sync o.class) (j ∷ js) (i ∷ ms) r
+            → (gives sig o.class js r → ((served_among (program.is_sync o.class) js ms ≡ None) × (r ≡ None)) ⊎ ServesCall sig h o (program.is_sync o.class) js ms r)
+            → ((served_among (program.is_sync o.class) (j ∷ js) (i ∷ ms) ≡ None) × (r ≡ None)) ⊎ ServesCall sig h o (program.is_sync o.class) (j ∷ js) (i ∷ ms) r
         by_kind true q f k =
             let message : Message = record { object = o; method = j; arguments = t.0 } in
             inr (record { call = i; message = message; method = g.0; served = rw q refl; sent = pending_sent i message h t.2; found = g.1; result = f })
         by_kind false q f k =
             elim (k f) [
-              | inl none ↦ inl (rw (q, none) refl)
+              | inl none ↦ inl (let first = none.0 in rw (q, first) refl, none.1)
               | inr s ↦ inr (record { call = s.call; message = s.message; method = s.method; served = rw q s.served; sent = s.sent; found = s.found; result = s.result })
             ]
 
     -- the body of a firing begins as it may, and is to give what the method gives that it serves
-    pub firing_fits : (n k : ℕ) (ms : List ℕ) (vs : List Value) → AllBelow n h → Fires program h k o ms vs → (r : Option StaticType) × (StartFits sig p) (Chord k o vs) r × IsDueType program sig (record { number = n; body = n; what = Fired k o ms vs } ∷ h) n r
+    pub firing_fits : (n k : ℕ) (ms : List ℕ) (vs : List Value) → AllBelow n h → Fires program h k o ms vs → (r : Option StaticType) × (StartFits sig p) (Chord k o vs) r × IsResultType program sig (record { number = n; body = n; what = Fired k o ms vs } ∷ h) n r
     firing_fits n k ms vs below f =
         let y = chord_of_plan o.class k f.0 f.1 in
         let ch = chord_is_planned o.class k y.0 (slice_get p.classes o.class) refl y.1 in
@@ -125,9 +126,20 @@ module _ (sig : Signatures) (p : Resolved) (plan : IsPlanned sig p) (program : P
         own_number : serves program n (record { number = n; body = n; what = Fired k o ms vs } ∷ h) ≡ served_among (program.is_sync o.class) f.0 ms
         own_number = let q : (n == n) ≡ true = eq-eqb n n refl in rw q (ap (λ z. served_among (program.is_sync o.class) (or_none z) ms) f.1)
 
-        due : {r : Option StaticType} → (served_among (program.is_sync o.class) f.0 ms ≡ None) ⊎ ServesCall sig h o (program.is_sync o.class) f.0 ms r → IsDueType program sig (record { number = n; body = n; what = Fired k o ms vs } ∷ h) n r
-        due (inl none) = inl (own_number ∙ none)
-        due (inr s) = inr (s.call, s.message, s.method, own_number ∙ s.served, sent_more (record { number = n; body = n; what = Fired k o ms vs }) s.call s.message h below s.sent, s.found, s.result)
+        due : {r : Option StaticType} → ((served_among (program.is_sync o.class) f.0 ms ≡ None) × (r ≡ None)) ⊎ ServesCall sig h o (program.is_sync o.class) f.0 ms r → IsResultType program sig (record { number = n; body = n; what = Fired k o ms vs } ∷ h) n r
+        due (inl none) = inl (own_number ∙ none.0, none.1)
+        due (inr s) =
+            inr (
+              s.method,
+              record {
+                call = s.call;
+                message = s.message;
+                serves_call = own_number ∙ s.served;
+                is_message = sent_more (record { number = n; body = n; what = Fired k o ms vs }) s.call s.message h below s.sent;
+                found = s.found;
+              },
+              s.result,
+            )
 
   -- the plan tells of each number whether its method's callers wait as the signatures do, also where there is none
   tells_kind_of_all : (k j : ℕ) → plan_kinds p k j ≡ is_sync_in (sig.methods k j)

@@ -7,7 +7,8 @@ mod GoodObjects
 pub mod GoodPlays
 mod Ends
 mod Firings
+mod TypedRuns
 pub mod SoundRuns
-mod SourceRuns
 mod Callers
+mod SourceRuns
 mod Traps

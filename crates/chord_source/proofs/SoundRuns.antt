@@ -1,5 +1,5 @@
 -- Code that plays what a source does is sound in every run, and its runs are the source's.
-use Rattle.std.proofs.Common.{◌≡◌, ℕ, List, Bool, true, false, Option, Some, refl, sym, ◌∙◌, ap, subst, slice_get, length}
+use Rattle.std.proofs.Common.{◌≡◌, ℕ, List, ◌∷◌, Bool, true, false, Option, Some, refl, sym, ◌∙◌, ap, subst, slice_get, length}
 use Rattle.std.proofs.lemmas.Option.{none-some}
 use Rattle.chord_base.specs.declared.value.Object.{Object}
 use Rattle.chord_base.specs.declared.value.Value.{Value}
@@ -28,9 +28,11 @@ use Rattle.chord_code.proofs.Sound.{all_good, all_defined}
 use Rattle.chord_source.specs.Source.{class_methods, play_of, source_program}
 use Rattle.chord_source.specs.Laws.{AreWellTyped, StartFits}
 use Rattle.chord_source.specs.Sources.{IsCodeOf, IsSoundAs, SoundRuns}
+use Rattle.chord_source.specs.TypedRuns.{FitsMethod}
 use Rattle.chord_source.proofs.Firings.{tells_kind, firing_fits, chords_right}
 use Rattle.chord_source.proofs.GoodObjects.{as_many_values}
 use Rattle.chord_source.proofs.GoodPlays.{good_plays}
+use Rattle.chord_source.proofs.TypedRuns.{as_due_type}
 
 -- code whose bodies play good plays of a source agrees in its runs with the meaning that tells these plays' asks
 agrees_in_runs : (code : Parts) → IsForward code → (limits : Limits) (sig : Signatures) (src : Start → ℕ → Play) (fits : Start → Option StaticType → Type 0) → AreLocal code limits sig src fits → IsPlan code limits sig src fits
@@ -75,35 +77,32 @@ module _ (sig : Signatures) (p : Resolved) (typed : AreWellTyped sig p) (plan : 
 
   -- the plan is as the runs of code need it
   is_plan : IsPlan code limits sig (play_of p limits) (StartFits sig p)
-  is_plan = record { main = refl; fired = λ h n k o ms vs below all f. firing_fits sig p plan (code_program code limits) (is.chords limits) (is.is_sync limits) h all.messages o n k ms vs below f }
+  is_plan = record {
+    main = refl;
+    fired = λ h n k o ms vs below all f.
+        let r = firing_fits sig p plan (code_program code limits) (is.chords limits) (is.is_sync limits) h all.messages o n k ms vs below f in
+        (r.0, r.1, as_due_type (code_program code limits) sig (record { number = n; body = n; what = Fired k o ms vs } ∷ h) n r.0 r.2);
+  }
 
   -- after each run each message has its arguments, and each body does what is left of its play
   run_is_good : (h : List Entry) → IsPast (code_program code limits) h → AllGood code limits sig (play_of p limits) h
   run_is_good h past = all_good code is.forward limits sig (play_of p limits) (StartFits sig p) plays_locally is_plan h past
 
-  -- a message of a method of this kind, with its arguments
-  record NextMessage (o : Object) (j : ℕ) (vs : List Value) (sync : Bool) : Type 0 where
-    signature : Signature
-    found : sig.methods o.class j ≡ Some signature
-    kind : signature.is_sync ≡ sync
-    arguments : HaveAll sig signature.parameters vs
-
-  -- what a good play says of a message is that it is one
-  as_next_message : (o : Object) (j : ℕ) (vs : List Value) (sync : Bool) → (m : Signature) × (sig.methods o.class j ≡ Some m) × (m.is_sync ≡ sync) × HaveAll sig m.parameters vs → NextMessage o j vs sync
-  as_next_message o j vs sync q =
-      record { signature = q.0; found = q.1; kind = q.2; arguments = q.3 }
+  -- what a good play says of a message is that it fits its method
+  as_fit : (o : Object) (j : ℕ) (vs : List Value) (sync : Bool) → (m : Signature) × (sig.methods o.class j ≡ Some m) × (m.is_sync ≡ sync) × HaveAll sig m.parameters vs → FitsMethod sig sync o j vs
+  as_fit o j vs sync q = record { method = q.0; found = q.1; kind = q.2; arguments = q.3 }
 
   -- what a body is to send is a message of an asynchronous method
-  sends_next : (h : List Entry) (b : ℕ) (o : Object) (j : ℕ) (vs : List Value) (l : ℕ) (d : Doing) → BodyPlays code limits sig (play_of p limits) h b d → asked (code_program code limits) d ≡ Some (record { what = Sent o j vs; depth = l }) → NextMessage o j vs false
-  sends_next h b o j vs l (Ready s d rs) k e = as_next_message o j vs false (message_kind sig k.kind k.play o j vs k.good (playing_asks code is.forward limits sig (play_of p limits) h b s d rs k (Sent o j vs) l e))
+  sends_next : (h : List Entry) (b : ℕ) (o : Object) (j : ℕ) (vs : List Value) (l : ℕ) (d : Doing) → BodyPlays code limits sig (play_of p limits) h b d → asked (code_program code limits) d ≡ Some (record { what = Sent o j vs; depth = l }) → FitsMethod sig false o j vs
+  sends_next h b o j vs l (Ready s d rs) k e = as_fit o j vs false (message_kind sig k.kind k.play o j vs k.good (playing_asks code is.forward limits sig (play_of p limits) h b s d rs k (Sent o j vs) l e))
   sends_next h b o j vs l (Waits s d rs q l') k e = absurd (none-some _ e)
   sends_next h b o j vs l (Over x) k e = absurd (none-some _ e)
   sends_next h b o j vs l Absent k e = absurd (none-some _ e)
   sends_next h b o j vs l Unplaced k e = absurd (none-some _ e)
 
   -- what a body is to call is a message of a synchronous method
-  calls_next : (h : List Entry) (b : ℕ) (o : Object) (j : ℕ) (vs : List Value) (l : ℕ) (d : Doing) → BodyPlays code limits sig (play_of p limits) h b d → asked (code_program code limits) d ≡ Some (record { what = Called o j vs; depth = l }) → NextMessage o j vs true
-  calls_next h b o j vs l (Ready s d rs) k e = as_next_message o j vs true (call_has_kind sig k.kind k.play o j vs k.good (playing_asks code is.forward limits sig (play_of p limits) h b s d rs k (Called o j vs) l e))
+  calls_next : (h : List Entry) (b : ℕ) (o : Object) (j : ℕ) (vs : List Value) (l : ℕ) (d : Doing) → BodyPlays code limits sig (play_of p limits) h b d → asked (code_program code limits) d ≡ Some (record { what = Called o j vs; depth = l }) → FitsMethod sig true o j vs
+  calls_next h b o j vs l (Ready s d rs) k e = as_fit o j vs true (call_has_kind sig k.kind k.play o j vs k.good (playing_asks code is.forward limits sig (play_of p limits) h b s d rs k (Called o j vs) l e))
   calls_next h b o j vs l (Waits s d rs q l') k e = absurd (none-some _ e)
   calls_next h b o j vs l (Over x) k e = absurd (none-some _ e)
   calls_next h b o j vs l Absent k e = absurd (none-some _ e)
@@ -118,10 +117,10 @@ module _ (sig : Signatures) (p : Resolved) (typed : AreWellTyped sig p) (plan : 
   message_is_right h n b (Ended x) past a = (tt, tt)
   message_is_right h n b (Sent o j vs) past a =
       let m = sends_next h b o j vs a.0 (doing (code_program code limits) h b) ((run_is_good h past).bodies b) a.1 in
-      (tells o.class j m.signature m.found ∙ m.kind, has_method o.class j m.signature (length vs) m.found (as_many_values sig m.signature.parameters vs m.arguments))
+      (tells o.class j m.method m.found ∙ m.kind, has_method o.class j m.method (length vs) m.found (as_many_values sig m.method.parameters vs m.arguments))
   message_is_right h n b (Called o j vs) past a =
       let m = calls_next h b o j vs a.0 (doing (code_program code limits) h b) ((run_is_good h past).bodies b) a.1 in
-      (tells o.class j m.signature m.found ∙ m.kind, has_method o.class j m.signature (length vs) m.found (as_many_values sig m.signature.parameters vs m.arguments))
+      (tells o.class j m.method m.found ∙ m.kind, has_method o.class j m.method (length vs) m.found (as_many_values sig m.method.parameters vs m.arguments))
 
   -- the code is sound under the limits, and its runs are the source's
   sound_as : IsSoundAs code p limits

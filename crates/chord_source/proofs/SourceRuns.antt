@@ -1,5 +1,5 @@
--- In every run of a meaning whose bodies ask what good plays ask, each ask is defined and of its method's kind.
-use Rattle.std.proofs.Common.{◌≡◌, ℕ, ◌+◌, ◌<◌, length, inl, inr, true, ◌==◌, List, [], ◌∷◌, ◌++◌, Option, Some, None, refl, sym, ap, ◌∙◌, subst, arith}
+-- In every run of a meaning whose bodies ask what good plays ask, each ask is defined, of its method's kind and keeps to types.
+use Rattle.std.proofs.Common.{◌≡◌, ℕ, ◌+◌, ◌<◌, length, inl, inr, true, ◌==◌, List, [], ◌∷◌, ◌++◌, reverse, Option, Some, None, refl, sym, ap, ◌∙◌, subst, arith}
 use Rattle.std.specs.Prelude.{option_map, IsSome}
 use Rattle.std.proofs.lemmas.Bool.{eq-eqb, eqb-true}
 use Rattle.std.proofs.lemmas.Option.{none-some, same_Some}
@@ -17,8 +17,8 @@ use Rattle.chord_base.specs.declared.event.What.TheVariants.{Begun, Made, Sent, 
 use Rattle.chord_base.specs.Meaning.{Program, Start, Main, Chord, Asked}
 use Rattle.chord_base.specs.Bodies.{Doing, Absent, Unplaced, Ready, Waits, Over, asked, answered, begun, begun_by, doing, heard, own, placed, replied, served, serves, waiting}
 use Rattle.chord_base.specs.Messages.{Message, maker, message_of}
-use Rattle.chord_base.specs.Machine.{Comes, Fires, IsPast}
-use Rattle.chord_base.specs.Story.{AllBelow, HasKind, IsDefined, IsOwn, IsSound}
+use Rattle.chord_base.specs.Machine.{Comes, Fires, IsPast, IsRun}
+use Rattle.chord_base.specs.Story.{AllBelow, HasKind, IsDefined, IsIn, IsOwn, IsSound}
 use Rattle.chord_base.specs.declared.static_type.StaticType.{StaticType}
 use Rattle.chord_base.specs.Types.{Has, Signature, Signatures}
 use Rattle.chord_base.proofs.Merged.{past_below}
@@ -26,14 +26,17 @@ use Rattle.chord_base.proofs.Waits.{either}
 use Rattle.chord_bodies.specs.Planned.{IsPlanned}
 use Rattle.chord_bodies.specs.Resolved.{Resolved}
 use Rattle.chord_code.specs.Plays.{Play, MakesObject, SendsMessage, CallsMethod, PrintsLine, EndsBody, GoesWrong, EndFits, Good, ask_of, left_after, left_of, what_of}
-use Rattle.chord_code.specs.Runs.{IsDueType, IsFitMessage, sent}
-use Rattle.chord_code.proofs.AllGood.{due_more, message_fits, own_entry, sent_more}
+use Rattle.chord_code.specs.Runs.{IsFitMessage, sent}
+use Rattle.chord_code.proofs.AllGood.{message_fits, own_entry, sent_more}
 use Rattle.chord_code.proofs.Plays.{good_left}
 use Rattle.chord_code.proofs.Runs.{due_is, ended_kind, left_more}
 use Rattle.chord_source.specs.Laws.{AreWellTyped, MachinesAreSound, StartFits}
 use Rattle.chord_source.specs.Source.{play_of, source_program}
+use Rattle.chord_source.specs.TypedRuns.{IsResultType, KeepsTypes, RunsKeepTypes}
+use Rattle.chord_source.proofs.Callers.{in_reversed}
 use Rattle.chord_source.proofs.Firings.{chords_right, firing_fits, tells_kind}
 use Rattle.chord_source.proofs.GoodPlays.{good_plays}
+use Rattle.chord_source.proofs.TypedRuns.{EntryFits, as_due_type, fits_later, play_fits, result_more}
 
 -- what a play's ask says is what the play says
 ask_says : (limits : Limits) (p : Play) → option_map (λ (a : Asked). a.what) (ask_of limits p) ≡ what_of p
@@ -94,7 +97,7 @@ module _ (limits : Limits) (sig : Signatures) (program : Program) (src : Start �
     kind : Option StaticType
     good : Good sig kind play
     early : b < length h
-    due : IsDueType program sig h b kind
+    due : IsResultType program sig h b kind
 
   -- what is known of a body, by what it does
   abbrev BodyIsGood : List Entry → ℕ → Doing → Type 0
@@ -148,7 +151,7 @@ module _ (limits : Limits) (sig : Signatures) (program : Program) (src : Start �
         kind = k.kind;
         good = k.good;
         early = (let i = k.early in omega (arith, i));
-        due = due_more program sig e h b k.kind a (let i = k.early in omega (arith, i, n)) k.due;
+        due = result_more program sig e h b k.kind a (let i = k.early in omega (arith, i, n)) k.due;
       }
 
   -- a body that does what it did
@@ -164,7 +167,7 @@ module _ (limits : Limits) (sig : Signatures) (program : Program) (src : Start �
   end_fits h b (Traps t) l q m p d k e s f fit w = answer_fits sig 0 t (Called m.object m.method m.arguments) p w (λ x z. cc)
   end_fits h b (Gives v) l q m p (Ready st dp rs) k e s f fit w =
       let i = playing_asks h b st dp rs (Ended (Gives v)) l k e in
-      let is : k.kind ≡ fit.method.result = due_is program sig h b q k.kind m fit.method k.due s f fit.found in
+      let is : k.kind ≡ fit.method.result = due_is program sig h b q k.kind m fit.method (as_due_type program sig h b k.kind k.due) s f fit.found in
       value_fits sig v (Called m.object m.method m.arguments) p w (fit.method, fit.found, subst (λ z. Has sig z v) is (ended_kind sig k.kind k.play v k.good i))
   end_fits h b (Gives v) l q m p (Waits st dp rs c pl) k e s f fit w = absurd (none-some _ e)
   end_fits h b (Gives v) l q m p (Over y) k e s f fit w = absurd (none-some _ e)
@@ -277,9 +280,9 @@ module _ (limits : Limits) (sig : Signatures) (program : Program) (src : Start �
       by_maker (Some b) = below (g b)
 
   module _ (fits : Start → Option StaticType → Type 0) (local : (s : Start) (d : ℕ) (r : Option StaticType) → fits s r → Good sig r (src s d)) (main : fits Main None)
-      (fired : (h : List Entry) → RunIsGood h → (n k : ℕ) (o : Object) (ms : List ℕ) (vs : List Value) → AllBelow n h → Fires program h k o ms vs → (r : Option StaticType) × fits (Chord k o vs) r × IsDueType program sig (own_entry n n (Fired k o ms vs) ∷ h) n r) where
+      (fired : (h : List Entry) → RunIsGood h → (n k : ℕ) (o : Object) (ms : List ℕ) (vs : List Value) → AllBelow n h → Fires program h k o ms vs → (r : Option StaticType) × fits (Chord k o vs) r × IsResultType program sig (own_entry n n (Fired k o ms vs) ∷ h) n r) where
     -- a body that begins
-    playing_begins : (h : List Entry) (b : ℕ) (s : Start) (d : ℕ) (r : Option StaticType) → fits s r → IsDueType program sig h b r → b < length h → IsPlayingWell h b s d []
+    playing_begins : (h : List Entry) (b : ℕ) (s : Start) (d : ℕ) (r : Option StaticType) → fits s r → IsResultType program sig h b r → b < length h → IsPlayingWell h b s d []
     playing_begins h b s d r f due early = record { play = src s d; is = refl; kind = r; good = local s d r f; early = early; due = due }
 
     -- `Main` begins
@@ -292,7 +295,7 @@ module _ (limits : Limits) (sig : Signatures) (program : Program) (src : Start �
               elim (either (0 == x)) [
                 | inl y ↦
                     (let z = eqb-true 0 x y in
-                    rw y (subst (λ v. BodyIsGood (own_entry 0 0 Begun ∷ []) v (Ready Main 1 [])) z (playing_begins (own_entry 0 0 Begun ∷ []) 0 Main 1 None main (inl refl) (omega arith))))
+                    rw y (subst (λ v. BodyIsGood (own_entry 0 0 Begun ∷ []) v (Ready Main 1 [])) z (playing_begins (own_entry 0 0 Begun ∷ []) 0 Main 1 None main (inl (refl, refl)) (omega arith))))
                 | inr o ↦ rw o tt
               ];
         }
@@ -333,6 +336,48 @@ module _ (limits : Limits) (sig : Signatures) (program : Program) (src : Start �
     run_good [] r = record { messages = λ q m s. no_message m s; bodies = λ x. tt }
     run_good (e ∷ h) r = step_comes h e.number e.body e.what (past_below program h e.number r.0 (omega (arith, r.1.numbered))) r.1.numbered (run_good h r.0) r.1.comes
 
+    -- what a body asks keeps to types
+    asked_entry_fits : (h : List Entry) (b : ℕ) (w : What) (l : ℕ) (d : Doing) → BodyIsGood h b d → asked program d ≡ Some (record { what = w; depth = l }) → EntryFits program sig h b w
+    asked_entry_fits h b w l (Ready s dp rs) k e = play_fits program sig h b k.kind k.play w k.early k.due k.good (playing_asks h b s dp rs w l k e)
+    asked_entry_fits h b w l (Waits s dp rs q pl) k e = absurd (none-some _ e)
+    asked_entry_fits h b w l (Over x) k e = absurd (none-some _ e)
+    asked_entry_fits h b w l Absent k e = absurd (none-some _ e)
+    asked_entry_fits h b w l Unplaced k e = absurd (none-some _ e)
+
+    -- what comes next in a good run keeps to types
+    comes_fits : (h : List Entry) (n b : ℕ) (w : What) → RunIsGood h → Comes program h n b w → EntryFits program sig h b w
+    comes_fits h n b Begun all c = tt
+    comes_fits h n b (Fired k o ms vs) all c = tt
+    comes_fits h n b (Made x) all c = tt
+    comes_fits h n b (Printed t) all c = tt
+    comes_fits h n b (Ended x) all c = asked_entry_fits h b (Ended x) c.0 (doing program h b) (all.bodies b) c.1
+    comes_fits h n b (Sent o j vs) all c = asked_entry_fits h b (Sent o j vs) c.0 (doing program h b) (all.bodies b) c.1
+    comes_fits h n b (Called o j vs) all c = asked_entry_fits h b (Called o j vs) c.0 (doing program h b) (all.bodies b) c.1
+
+    -- each entry of a run keeps to types
+    past_fits : (h : List Entry) (x : Entry) → IsPast program h → IsIn x h → EntryFits program sig h x.body x.what
+    past_fits [] x r i = absurd i
+    past_fits (e ∷ h) x r i =
+        let here : EntryFits program sig h x.body x.what =
+        elim i [
+          | inl y ↦ subst (λ (z : Entry). EntryFits program sig h z.body z.what) (sym y) (comes_fits h e.number e.body e.what (run_good h r.0) r.1.comes)
+          | inr y ↦ past_fits h x r.0 y
+        ]
+        in
+        fits_later program sig e h x.body x.what (past_below program h e.number r.0 (omega (arith, r.1.numbered))) r.1.numbered here
+
+    -- each run keeps to types
+    keeps_types : (journal : List Entry) → IsRun program journal → KeepsTypes program sig journal
+    keeps_types journal run = record {
+      sends = λ e o j vs i w. there e (Sent o j vs) i w;
+      calls = λ e o j vs i w. there e (Called o j vs) i w;
+      gives = λ e v i w. (let k = there e (Ended (Gives v)) i w in (k.1, k.2, k.3));
+    }
+      where
+        -- an entry of the journal that says this keeps to types
+        there : (e : Entry) (w : What) → IsIn e journal → e.what ≡ w → EntryFits program sig (reverse journal) e.body w
+        there e w i is = subst (EntryFits program sig (reverse journal) e.body) is (past_fits (reverse journal) e run (in_reversed e journal i))
+
     module _ (kinds : (k j : ℕ) (m : Signature) → sig.methods k j ≡ Some m → program.is_sync k j ≡ m.is_sync) where
       -- what a good play says has the kind of its method
       good_kind : (r : Option StaticType) (p : Play) (w : What) → Good sig r p → what_of p ≡ Some w → HasKind program w
@@ -369,13 +414,26 @@ module _ (limits : Limits) (sig : Signatures) (program : Program) (src : Start �
       }
 
 module _ (sig : Signatures) (p : Resolved) (typed : AreWellTyped sig p) (plan : IsPlanned sig p) (limits : Limits) where
+  -- the body of a firing begins as it may, and has its result type
+  source_fired : (h : List Entry) → RunIsGood limits sig (source_program p limits) (play_of p limits) (λ s d rs. refl) h → (n k : ℕ) (o : Object) (ms : List ℕ) (vs : List Value) → AllBelow n h → Fires (source_program p limits) h k o ms vs
+      → (r : Option StaticType) × StartFits sig p (Chord k o vs) r × IsResultType (source_program p limits) sig (own_entry n n (Fired k o ms vs) ∷ h) n r
+  source_fired h all n k o ms vs below f = firing_fits sig p plan (source_program p limits) refl refl h all.messages o n k ms vs below f
+
   -- the join machine of a source is sound
   source_sound : IsSound (source_program p limits)
   source_sound =
-      plays_sound limits sig (source_program p limits) (play_of p limits) (λ s d rs. refl) (StartFits sig p) (λ s d r f. good_plays sig p typed plan limits s d r f) refl
-      (λ h all n k o ms vs below f. firing_fits sig p plan (source_program p limits) refl refl h all.messages o n k ms vs below f)
+      plays_sound limits sig (source_program p limits) (play_of p limits) (λ s d rs. refl) (StartFits sig p) (λ s d r f. good_plays sig p typed plan limits s d r f) refl source_fired
       (tells_kind sig p plan (source_program p limits) refl refl)
+
+  -- its runs keep to types
+  source_keeps_types : (journal : List Entry) → IsRun (source_program p limits) journal → KeepsTypes (source_program p limits) sig journal
+  source_keeps_types journal run =
+      keeps_types limits sig (source_program p limits) (play_of p limits) (λ s d rs. refl) (StartFits sig p) (λ s d r f. good_plays sig p typed plan limits s d r f) refl source_fired journal run
 
 -- the join machine of each source whose bodies keep to their static types, and whose plan is as it must be, is sound, and its chords are right
 pub machines_are_sound : MachinesAreSound
 machines_are_sound sig p typed plan limits = record { sound = source_sound sig p typed plan limits; chords = chords_right sig p plan (source_program p limits) refl refl }
+
+-- each run of such a machine keeps to types
+pub runs_keep_types : RunsKeepTypes
+runs_keep_types sig p typed plan limits journal run = source_keeps_types sig p typed plan limits journal run

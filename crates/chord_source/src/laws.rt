@@ -5,6 +5,7 @@ ghost use Rattle.chord_source.specs.Callers.{RunsServeCallers};
 ghost use Rattle.chord_source.specs.Laws.{GoodPlays, EachEnds, MachinesAreSound};
 ghost use Rattle.chord_source.specs.Sources.{SoundRuns};
 ghost use Rattle.chord_source.specs.Traps.{RunsKeepTraps, SourcesHandTrapsOn};
+ghost use Rattle.chord_source.specs.TypedRuns.{RunsKeepTypes};
 
 /// A body that keeps to its static types never goes wrong: its messages have the arguments of their methods, and it gives
 /// a value of its result's type.
@@ -21,6 +22,13 @@ pub fn ends()
 /// its method. Each of its chords has one to eight methods, all different and at most one of them synchronous.
 pub fn sound()
     ensures { MachinesAreSound }
+{}
+
+/// In each run of the join machine of such a source each message that is sent names an asynchronous method of its object's
+/// class, and each that is called a synchronous one, with a value of its type for each parameter. A body that gives a value
+/// gives one of its result type, which is that of the method whose call it serves; one that serves no call gives the unit value.
+pub fn typed()
+    ensures { RunsKeepTypes }
 {}
 
 /// In each run of a sound machine no message is taken twice, each caller that is served goes on with the end of the body of

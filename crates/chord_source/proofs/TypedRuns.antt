@@ -1,0 +1,66 @@
+-- What an entry says keeps to types, and does so after each later entry.
+use Rattle.std.proofs.Common.{◌≡◌, ℕ, ◌<◌, length, inl, inr, true, false, ◌==◌, List, ◌∷◌, Option, Some, subst, arith}
+use Rattle.std.proofs.lemmas.Bool.{ne_eqb}
+use Rattle.std.proofs.lemmas.Option.{same_Some}
+use Rattle.chord_base.specs.declared.event.End.TheVariants.{Gives, Traps}
+use Rattle.chord_base.specs.declared.event.Entry.{Entry}
+use Rattle.chord_base.specs.declared.event.What.{What}
+use Rattle.chord_base.specs.declared.event.What.TheVariants.{Begun, Made, Sent, Called, Printed, Fired, Ended}
+use Rattle.chord_base.specs.Meaning.{Program}
+use Rattle.chord_base.specs.Story.{AllBelow}
+use Rattle.chord_base.specs.declared.static_type.StaticType.{StaticType}
+use Rattle.chord_base.specs.Types.{Has, Signatures}
+use Rattle.chord_code.specs.Plays.{Play, MakesObject, SendsMessage, CallsMethod, PrintsLine, EndsBody, GoesWrong, Good, what_of}
+use Rattle.chord_code.specs.Runs.{IsDueType}
+use Rattle.chord_code.proofs.AllGood.{sent_more}
+use Rattle.chord_source.specs.TypedRuns.{FitsMethod, IsResultType}
+
+-- the result type of a body is the type that is due of it
+pub as_due_type : (program : Program) (sig : Signatures) (h : List Entry) (b : ℕ) (r : Option StaticType) → IsResultType program sig h b r → IsDueType program sig h b r
+as_due_type program sig h b r is = elim is [ inl none ↦ inl none.0 | inr s ↦ inr (s.1.call, s.1.message, s.0, s.1.serves_call, s.1.is_message, s.1.found, s.2) ]
+
+-- the result type of a body stays after one more entry
+pub result_more : (program : Program) (sig : Signatures) (e : Entry) (h : List Entry) (b : ℕ) (r : Option StaticType) → AllBelow e.number h → b < e.number → IsResultType program sig h b r → IsResultType program sig (e ∷ h) b r
+result_more program sig e h b r a l is =
+    let o : (e.number == b) ≡ false = ne_eqb e.number b (λ i. omega (arith, i, l)) in
+    elim is [
+      | inl none ↦ inl (rw o none.0, none.1)
+      | inr s ↦
+          inr (
+            s.0,
+            record { call = s.1.call; message = s.1.message; serves_call = rw o s.1.serves_call; is_message = sent_more e s.1.call s.1.message h a s.1.is_message; found = s.1.found },
+            s.2,
+          )
+    ]
+
+-- an entry of a body keeps to types: a message fits its method, and a value that the body gives has its result type
+abbrev pub EntryFits : Program → Signatures → List Entry → ℕ → What → Type 0
+EntryFits program sig h b (Sent o j vs) = FitsMethod sig false o j vs
+EntryFits program sig h b (Called o j vs) = FitsMethod sig true o j vs
+EntryFits program sig h b (Ended (Gives v)) = (b < length h) × (r : Option StaticType) × IsResultType program sig h b r × Has sig r v
+EntryFits program sig h b (Ended (Traps t)) = Unit {0}
+EntryFits program sig h b Begun = Unit {0}
+EntryFits program sig h b (Made c) = Unit {0}
+EntryFits program sig h b (Printed t) = Unit {0}
+EntryFits program sig h b (Fired k o ms vs) = Unit {0}
+
+-- what a good play says keeps to types
+pub play_fits : (program : Program) (sig : Signatures) (h : List Entry) (b : ℕ) (r : Option StaticType) (p : Play) (w : What) → b < length h → IsResultType program sig h b r → Good sig r p → what_of p ≡ Some w → EntryFits program sig h b w
+play_fits program sig h b r (MakesObject c k) w l is g e = subst (EntryFits program sig h b) (same_Some _ _ e) tt
+play_fits program sig h b r (SendsMessage o j vs p) w l is g e = subst (EntryFits program sig h b) (same_Some _ _ e) (record { method = g.0.0; found = g.0.1; kind = g.0.2; arguments = g.0.3 })
+play_fits program sig h b r (CallsMethod room o j vs k) w l is g e = subst (EntryFits program sig h b) (same_Some _ _ e) (record { method = g.0; found = g.1; kind = g.2; arguments = g.3 })
+play_fits program sig h b r (PrintsLine t p) w l is g e = subst (EntryFits program sig h b) (same_Some _ _ e) tt
+play_fits program sig h b r (EndsBody (Gives v)) w l is g e = subst (EntryFits program sig h b) (same_Some _ _ e) (l, r, is, g)
+play_fits program sig h b r (EndsBody (Traps t)) w l is g e = subst (EntryFits program sig h b) (same_Some _ _ e) tt
+play_fits program sig h b r GoesWrong w l is g e = absurd g
+
+-- what keeps to types does so after one more entry
+pub fits_later : (program : Program) (sig : Signatures) (e : Entry) (h : List Entry) (b : ℕ) (w : What) → AllBelow e.number h → e.number ≡ length h → EntryFits program sig h b w → EntryFits program sig (e ∷ h) b w
+fits_later program sig e h b (Ended (Gives v)) a n k = (let i = k.0 in omega (arith, i), k.1, result_more program sig e h b k.1 a (let i = k.0 in omega (arith, i, n)) k.2, k.3)
+fits_later program sig e h b (Ended (Traps t)) a n k = tt
+fits_later program sig e h b (Sent o j vs) a n k = k
+fits_later program sig e h b (Called o j vs) a n k = k
+fits_later program sig e h b Begun a n k = tt
+fits_later program sig e h b (Made c) a n k = tt
+fits_later program sig e h b (Printed t) a n k = tt
+fits_later program sig e h b (Fired c o ms vs) a n k = tt
