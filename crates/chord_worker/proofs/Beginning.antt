@@ -47,7 +47,7 @@ use Rattle.chord_vm.specs.Frames.{laid}
 use Rattle.chord_word.specs.declared.cells.Word.{Word}
 use Rattle.chord_worker.specs.declared.worker.Worker.{Worker}
 use Rattle.chord_worker.specs.Beginning.{first_task, arguments_in, caller_or, HasBoth, FitsFiring, HasBegun}
-use Rattle.chord_worker.specs.Firing.{HasFired}
+use Rattle.chord_worker.specs.Firing.{HasFired, ServesNone}
 use Rattle.chord_worker.specs.Resting.{IsInMemory, IsStock, IsAtRest, IsSameRole}
 use Rattle.chord_worker.proofs.Begun.{alone_both, alone_defined, called_both, called_defined}
 use Rattle.chord_worker.proofs.Fitting.{comes_waiting}
@@ -186,12 +186,23 @@ module _ (s : Space Parcel) (w : Worker) (v : View) (o : Object) (k : ℕ) (ms :
               (called_both (program_of s) v.kept fired.memory.rises fired.memory.told f k o ms values fired.fired.below (view_of n.caller).past n.below n.comes.places);
         }
 
+    -- none of the parcels has a task, or one has that of the caller
+    callers : HasNone ((program_of s).is_sync o.class) (newest ∷ v.kept) fired.fired.methods ms qs ⊎ HasCaller (space_code s) (space_limits s) ((program_of s).is_sync o.class) f (newest ∷ v.kept) fired.fired.methods ms qs
+    callers = one_caller (space_code s) (space_limits s) sound one o f (newest ∷ v.kept) fired.fired.methods ms qs (one o.class k fired.fired.methods fired.fired.is_chord) fired.fired.older fired.fired.coming
+
     -- the caller's task, or else the one in stock
     pub fitted : Fits (caller_or (first_task qs) fired.stock)
     fitted = ⊎_elim
         (λ n. subst Fits (sym (ap (λ (x : Option Task). caller_or x fired.stock) n.task)) (where_none n))
         (λ n. subst Fits (sym (ap (λ (x : Option Task). caller_or x fired.stock) n.task)) (of_caller n))
-        (one_caller (space_code s) (space_limits s) sound one o f (newest ∷ v.kept) fired.fired.methods ms qs (one o.class k fired.fired.methods fired.fired.is_chord) fired.fired.older fired.fired.coming)
+        callers
+
+    -- one of the parcels has a task, or the firing serves no call
+    pub caller_or_none : (first_task qs ≢ None) ⊎ ServesNone s o k ms qs
+    caller_or_none = ⊎_elim
+        (λ n. inr (serves_is None n.serves))
+        (λ n. inl (λ none. let z : Some n.caller ≡ None = sym n.task ∙ none in cc))
+        callers
 
   -- the body has begun in this task
   pub has_begun : (stock : Option Task) → IsStock (space_code s) (space_limits s) stock → (t u : Task) → Fits t → IsTaskOf (space_code s) (space_limits s) u → (view_of u).past ≡ newest ∷ (view_of t).past → (view_of u).top ≡ Some f → (list : Vec Entry Global) → AddsOne t.past u.past w.draws.items list.items → HasBegun s (record w { spare = stock; draws = list }) v f u
@@ -237,6 +248,11 @@ module _ (s : Space Parcel) (w : Worker) (v : View) (o : Object) (k : ℕ) (ms :
     fits_task : Fits t
     fits_task = subst Fits (sym (taken fired.stock fired.spare ∙ ap (λ (x : Option Task). caller_or x fired.stock) is_caller))
         (fitted (subst (λ (c : Parts). ChordsAreRight (code_program c (space_limits s))) same (law (space_limits s))).one_sync)
+
+    -- a caller's task came, or the firing serves no call
+    pub caller_came : (caller ≢ None) ⊎ ServesNone s o k ms qs
+    caller_came = subst (λ (x : Option Task). (x ≢ None) ⊎ ServesNone s o k ms qs) (sym is_caller)
+        (caller_or_none (subst (λ (c : Parts). ChordsAreRight (code_program c (space_limits s))) same (law (space_limits s))).one_sync)
 
     -- the task is of this code under its own limits
     pub task_is : IsTaskOf code t.limits t

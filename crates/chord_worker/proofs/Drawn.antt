@@ -1,6 +1,6 @@
 -- What a worker draws in a step: an ask of the body on top, the end of this body, and a firing.
 use Rattle.std.specs.Prelude.{IfNone, IfSome}
-use Rattle.std.proofs.Common.{◌≡◌, ◌≢◌, ℕ, true, false, List, ◌∷◌, Option, Some, None, refl, sym, ap, ◌∙◌, subst, ◌⊎◌, inr}
+use Rattle.std.proofs.Common.{◌≡◌, ◌≢◌, ℕ, suc, ◌+◌, length, true, false, List, [], ◌∷◌, ◌++◌, Option, Some, None, refl, sym, ap, ◌∙◌, subst, ◌⊎◌, inl, inr, arith, append_assoc, length-append}
 use Rattle.chord_base.specs.declared.event.Entry.{Entry}
 use Rattle.chord_base.specs.declared.event.Limits.{Limits}
 use Rattle.chord_base.specs.declared.event.What.{What}
@@ -23,7 +23,7 @@ use Rattle.chord_vm.specs.declared.ask.Ask.{Ask}
 use Rattle.chord_vm.specs.Frames.{what_of_ask}
 use Rattle.chord_worker.specs.Playing.{IsNotedAs, IsNotedFrom, HeardOfLimit}
 use Rattle.chord_worker.specs.declared.worker.Worker.{Worker}
-use Rattle.chord_worker.specs.Stepping.{DrewFiring, DrewEnd, DrewAStep, StillStocked}
+use Rattle.chord_worker.specs.Stepping.{DrewFiring, DrewEnd, DrewAStep, SaysFirst, StillStocked}
 use Rattle.chord_worker.proofs.Given.{value_of_some, where_none}
 use Rattle.chord_worker.proofs.Stocked.{stocked_since}
 
@@ -34,6 +34,45 @@ fired_drew keeps p n v w o chord ms f qs fired = inr (firing_entry arguments_of 
 -- so it is after what was drawn before
 pub drew_since : (before before' now : List Entry) → before' ≡ before → DrewFiring before' now → DrewFiring before now
 drew_since before before' now same drew = subst (λ (es : List Entry). DrewFiring es now) same drew
+
+-- ## What is drawn first
+
+-- no entries are as many with more before them
+none_first : (os : List Entry) (e : Entry) (before : List Entry) → before ≡ os ++ e ∷ before → ⊥
+none_first os e before is =
+    let as_many = ap (λ (es : List Entry). length es) is ∙ length-append os (e ∷ before) in
+    omega (arith, as_many)
+
+-- of what was drawn after these entries one is the first
+same_first : (os os' : List Entry) (e e' : Entry) (before : List Entry) → os ++ e ∷ before ≡ os' ++ e' ∷ before → e ≡ e'
+same_first [] [] e e' before is = let z : e ∷ before ≡ e' ∷ before = is in cc
+same_first [] (o' ∷ os') e e' before is = absurd (none_first os' e' before (let z : e ∷ before ≡ o' ∷ (os' ++ e' ∷ before) = is in cc))
+same_first (o ∷ os) [] e e' before is = absurd (none_first os e before (let z : e' ∷ before ≡ o ∷ (os ++ e ∷ before) = sym is in cc))
+same_first (o ∷ os) (o' ∷ os') e e' before is = same_first os os' e e' before (let z : o ∷ (os ++ e ∷ before) ≡ o' ∷ (os' ++ e' ∷ before) = is in cc)
+
+-- what was drawn, if it is at most a firing, stands before these entries
+firing_before : (es now : List Entry) → DrewFiring es now → (os : List Entry) × (now ≡ os ++ es)
+firing_before es now (inl same) = ([], same)
+firing_before es now (inr f) = (f.0 ∷ [], f.1)
+
+-- so does what was drawn, if it is at most an end and a firing
+end_before : (b : ℕ) (es now : List Entry) → DrewEnd b es now → (os : List Entry) × (now ≡ os ++ es)
+end_before b es now (inl drew) = firing_before es now drew
+end_before b es now (inr e) =
+    let f = firing_before (e.0 ∷ es) now e.3 in
+    (f.0 ++ e.0 ∷ [], f.1 ∙ sym (append_assoc f.0 (e.0 ∷ []) es))
+
+-- an entry was drawn first, and then at most an end and a firing
+says_first : (x : Entry) (b : ℕ) (before es now : List Entry) → es ≡ x ∷ before → DrewEnd b es now → SaysFirst x.what before now
+says_first x b before es now is drew = λ e first.
+    let d = end_before b es now drew in
+    ap (λ (z : Entry). z.what) (same_first first.0 d.0 e x before (sym first.1 ∙ d.1 ∙ ap (λ (zs : List Entry). d.0 ++ zs) is))
+
+-- where nothing was drawn, nothing was drawn first
+pub nothing_first : (what : What) (before now : List Entry) → now ≡ before → SaysFirst what before now
+nothing_first what before now same = λ e first. absurd (none_first first.0 e before (sym same ∙ first.1))
+
+-- ## What a worker draws
 
 module _ (code : Parts) (limits : Limits) (v u : View) (t t' : Task) (n : ℕ) (what : What) (noted : IsNotedAs code limits v u t t' n what) where
   -- an entry was drawn
@@ -65,10 +104,15 @@ module _ (s : Space Parcel) (v u : View) (asked : Option Ask) (task task' : Task
   pub step_drew : (es now : List Entry) → es ≡ u.draws → ((b : ℕ) → (is_end (what_of_ask a) ≡ false → (view_of task').top ≡ Some b) → DrewEnd b es now) → DrewAStep task v.draws now
   step_drew es now same drew = ask_drew (space_code s) (space_limits s) v u t task' n (what_of_ask a) was_noted task came.view es now same (drew was_noted.body was_noted.top)
 
+  -- it was drawn first
+  pub step_says : (es now : List Entry) → es ≡ u.draws → ((b : ℕ) → (is_end (what_of_ask a) ≡ false → (view_of task').top ≡ Some b) → DrewEnd b es now) → SaysFirst (what_of_ask a) v.draws now
+  step_says es now same drew =
+      says_first (entry n was_noted.body (what_of_ask a)) was_noted.body v.draws es now (same ∙ noted_draws (space_code s) (space_limits s) v u t task' n (what_of_ask a) was_noted) (drew was_noted.body was_noted.top)
+
   -- the stock after it, and after what follows from it
-  pub step_stocked : (es : List Entry) (x y : Option Task) (w : Worker) → es ≡ u.draws → (x ≢ None → y ≡ x) → StillStocked es y w → StillStocked v.draws x w
-  step_stocked es x y w same stays still =
-      stocked_since v.draws es x y w stays still (entry n was_noted.body (what_of_ask a)) (same ∙ noted_draws (space_code s) (space_limits s) v u t task' n (what_of_ask a) was_noted)
+  pub step_stocked : (p : Program) (es : List Entry) (x y : Option Task) (w : Worker) → es ≡ u.draws → (x ≢ None → y ≡ x) → StillStocked p es y w → StillStocked p v.draws x w
+  step_stocked p es x y w same stays still =
+      stocked_since p v.draws es x y w stays still (entry n was_noted.body (what_of_ask a)) (same ∙ noted_draws (space_code s) (space_limits s) v u t task' n (what_of_ask a) was_noted)
 
   -- it was the end of the body on top, and what follows from the message before it
   pub last_drew : (b : ℕ) → (view_of t).top ≡ Some b → is_end (what_of_ask a) ≡ true → (now : List Entry) → DrewFiring u.draws now → DrewEnd b v.draws now

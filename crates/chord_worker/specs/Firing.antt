@@ -1,7 +1,9 @@
 -- A worker between a firing that it drew, whose parcels it was handed, and the beginning of the firing's body.
-use Rattle.std.specs.Prelude.{◌≡◌, ℕ, false, List, [], Some}
+use Rattle.std.specs.Prelude.{◌≡◌, ℕ, false, List, [], Some, None}
+use Rattle.chord_base.specs.declared.event.What.TheVariants.{Fired}
 use Rattle.chord_base.specs.declared.value.Object.{Object}
-use Rattle.chord_match.specs.Fires.{IsFired}
+use Rattle.chord_base.specs.Bodies.{served}
+use Rattle.chord_match.specs.Fires.{IsFired, laid_together}
 use Rattle.chord_rule.specs.declared.view.View.{View}
 use Rattle.chord_space.specs.declared.space.Space.{Space}
 use Rattle.chord_space.specs.Desks.{view, space_code, space_limits, program_of, IsDeskOf}
@@ -25,3 +27,7 @@ pub record HasFired (s : Space Parcel) (w : Worker) (v : View) (object : Object)
   pub listed : AreListed w.draws.items w.taken.items v.draws
   pub duties : (view w.desk).duties ≡ []
   pub fired : IsFired entries_of arguments_of (λ q. IsParcelOf q (space_code s) (space_limits s)) (program_of s) s.events v (view w.desk) object chord members f parcels
+
+-- the firing of this chord with these members and parcels serves no call
+abbrev pub ServesNone : Space Parcel → Object → ℕ → List ℕ → List Parcel → Type 0
+ServesNone s object chord members parcels = served (program_of s) (Fired chord object members (laid_together arguments_of parcels)) ≡ None

@@ -1,7 +1,11 @@
 -- What a step leaves behind: an entry that the desk keeps, a task that is away with its call, or the word that the limit is reached.
 use Rattle.std.specs.Prelude.{◌≡◌, ◌≢◌, ◌⊎◌, ◌<◌, ℕ, true, false, List, [], ◌∷◌, ◌++◌, Option, Some, None}
 use Rattle.chord_base.specs.declared.event.Entry.{Entry}
+use Rattle.chord_base.specs.declared.event.What.{What}
 use Rattle.chord_base.specs.declared.event.What.TheVariants.{Begun}
+use Rattle.chord_base.specs.Bodies.{served}
+use Rattle.chord_base.specs.Meaning.{Program}
+use Rattle.chord_base.specs.Messages.{message_of}
 use Rattle.chord_base.specs.Printed.{is_end}
 use Rattle.chord_base.specs.Story.{AllBelow, IsIn}
 use Rattle.chord_rule.specs.Kinds.{entry}
@@ -80,14 +84,32 @@ DrewEnd b before now = DrewFiring before now ⊎ ((e : Entry) × (e.body ≡ b) 
 abbrev pub DrewAStep : Task → List Entry → List Entry → Type 0
 DrewAStep t before now = (now ≡ before) ⊎ ((e : Entry) × ((view_of t).top ≡ Some e.body) × DrewEnd e.body (e ∷ before) now)
 
--- after these entries a desk drew others, and last a firing, with which its body begins
-pub record DrewFiringLast (before now : List Entry) : Type 0 where
+-- after these entries a desk drew others, and last a firing that serves no call, with which its body begins
+pub record DrewFiringLast (p : Program) (before now : List Entry) : Type 0 where
   pub others : List Entry
   pub fired : Entry
   pub drawn : now ≡ fired ∷ (others ++ before)
   pub is_firing : IsFiringEntry (Some fired.what)
   pub begins : fired.body ≡ fired.number
+  pub serves_none : served p fired.what ≡ None
 
--- what the worker had in stock is there still, or its desk, which had drawn these entries, drew a firing last
-abbrev pub StillStocked : List Entry → Option Task → Worker → Type 0
-StillStocked before x w = x ≢ None → (w.spare ≡ x) ⊎ DrewFiringLast before (view w.desk).draws
+-- what the worker had in stock is there still, or its desk, which had drawn these entries, drew a firing last that serves no call
+abbrev pub StillStocked : Program → List Entry → Option Task → Worker → Type 0
+StillStocked p before x w = x ≢ None → (w.spare ≡ x) ⊎ DrewFiringLast p before (view w.desk).draws
+
+-- after these entries a desk drew this one first, and perhaps others
+abbrev pub DrewFirst : Entry → List Entry → List Entry → Type 0
+DrewFirst e before now = (others : List Entry) × (now ≡ others ++ e ∷ before)
+
+-- the entry that a desk drew first after these, if it drew any, says this
+abbrev pub SaysFirst : What → List Entry → List Entry → Type 0
+SaysFirst what before now = (e : Entry) → DrewFirst e before now → e.what ≡ what
+
+-- what the worker has in stock after a step: before it x was in stock, and its desk had drawn these entries
+pub record HasStockAfter (p : Program) (before : List Entry) (x : Option Task) (w : Worker) : Type 0 where
+  -- what was there is there still, unless a firing that serves no call was drawn last
+  pub still : StillStocked p before x w
+  -- where the step's ask is a message, something is there then, unless such a firing was drawn last
+  pub stocked : (e : Entry) → DrewFirst e before (view w.desk).draws → message_of e.what ≢ None → (w.spare ≢ None) ⊎ DrewFiringLast p before (view w.desk).draws
+  -- where it is neither a message nor an end, nothing comes there
+  pub unmade : (e : Entry) → DrewFirst e before (view w.desk).draws → message_of e.what ≡ None → is_end e.what ≡ false → w.spare ≡ x

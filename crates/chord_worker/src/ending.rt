@@ -33,7 +33,7 @@ impl Worker {
     ///
     /// So the worker has no task when it fires, and plays the firing's body itself. In a chain of bodies, each of which sends what
     /// the next one takes, no other worker has to find each of them, whose processor has read none of it. The end comes in the place
-    /// of the ask that became the message. There is a task in stock then: the one that ended, unless the firing's body left the old one there.
+    /// of the ask that became the message. There is a task in stock then: the one that ended, unless the old one is there still.
     pub(crate) fn end_and_mind<R: Wait, G: Gate>(
         &mut self,
         rt: &R,
@@ -60,7 +60,7 @@ impl Worker {
         ensures role { OnOk result (IsSameRole (view self.old.desk) (view self.new.desk)) }
         ensures minded { OnOk result (WasMindedLast G.knows (view self.old.desk).kept self.new message.number) }
         ensures stocked { OnOk result (self.new.spare ≢ None) }
-        ensures stock { OnOk result (StillStocked (view self.old.desk).draws self.old.spare self.new) }
+        ensures stock { OnOk result (StillStocked (program_of space.now) (view self.old.desk).draws self.old.spare self.new) }
         ensures bare { OnOk result (OwnsNothing asked.new) }
         ensures drew { (b : ℕ) → (view_of task).top ≡ Some b → DrewEnd b (view self.old.desk).draws (view self.new.desk).draws }
         ensures short { OnErr result (IsOutOfMemory space.now self.new) }

@@ -13,7 +13,7 @@ ghost use Rattle.chord_task.specs.Stacks.{task_begun};
 ghost use Rattle.chord_task.specs.Standing.{view_of, IsTaskOf, MayResume};
 ghost use Rattle.chord_vm.specs.Frames.{laid};
 ghost use Rattle.chord_worker.specs.Beginning.{first_of, caller_or, HasUnpacked, HasBegun};
-ghost use Rattle.chord_worker.specs.Firing.{HasFired};
+ghost use Rattle.chord_worker.specs.Firing.{HasFired, ServesNone};
 ghost use Rattle.chord_worker.specs.Resting.{IsAtRest, IsSameRole};
 ghost use Rattle.chord_worker.specs.Stepping.{HasTakenOn};
 
@@ -269,7 +269,8 @@ impl Worker {
 
     /// The parcels of a firing's members were handed over: the arguments go to the firing's body, which begins in the task of the
     /// caller that it serves, or in the one in stock. A worker that has no task plays the body itself; else the body is posted
-    /// with its task. Its entry goes to the list of what the worker drew, in which there is room. Takes no memory.
+    /// with its task. What is in stock stays there, unless the firing serves no call. Its entry goes to the list of what the worker drew, in
+    /// which there is room. Takes no memory.
     pub(crate) fn begin_fired<G: Gate>(
         &mut self,
         space: &Space<Parcel>,
@@ -291,7 +292,7 @@ impl Worker {
         ensures untold { self.new.spent ≡ false }
         ensures undrawn { (view self.new.desk).draws ≡ (view self.old.desk).draws }
         ensures spare { (self.new.spare ≡ self.old.spare) ⊎ (self.new.spare ≡ None) }
-        ensures kept { unpacked.old.caller ≢ None → self.new.spare ≡ self.old.spare }
+        ensures kept { (v : View) (qs : List TheParcel) → HasUnpacked unpacked.old.arguments.one unpacked.old.arguments.more unpacked.old.caller qs → HasFired space.now self.old v drawn.object drawn.chord members.now drawn.number qs → (self.new.spare ≡ self.old.spare) ⊎ ServesNone space.now drawn.object drawn.chord members.now qs }
         ensures none { (unpacked.new.arguments.one.first ≡ []) × (unpacked.new.arguments.more ≡ None) × (unpacked.new.caller ≡ None) }
         ensures taken { (v : View) (qs : List TheParcel) → HasUnpacked unpacked.old.arguments.one unpacked.old.arguments.more unpacked.old.caller qs → HasFired space.now self.old v drawn.object drawn.chord members.now drawn.number qs → HasTakenOn G.knows v.kept self.old.task self.new drawn.number }
     {

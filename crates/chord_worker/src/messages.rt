@@ -12,7 +12,7 @@ ghost use Rattle.chord_task.specs.Standing.{view_of, IsTaskOf};
 ghost use Rattle.chord_task.specs.Turning.{HasCome, OwnsNothing};
 ghost use Rattle.chord_worker.specs.Resting.{IsAtRest, IsSameRole, IsOutOfMemory};
 ghost use Rattle.chord_worker.specs.Sending.{IsSentOff};
-ghost use Rattle.chord_worker.specs.Stepping.{DrewAStep, HasGoneOn, PlaysNext, StillStocked};
+ghost use Rattle.chord_worker.specs.Stepping.{DrewAStep, HasGoneOn, PlaysNext, SaysFirst, StillStocked};
 
 use crate::minding::Minded;
 use crate::playing::draw_own;
@@ -137,9 +137,10 @@ impl Worker {
         ensures over { OnOk result (self.new.spent ≡ true → self.new.task ≡ None) }
         ensures went { OnOk result (HasGoneOn (view self.old.desk).kept task self.new) }
         ensures plays { OnOk result (PlaysNext G.knows (view self.old.desk).kept task self.new) }
-        ensures stock { OnOk result (StillStocked (view self.old.desk).draws self.old.spare self.new) }
+        ensures stock { OnOk result (StillStocked (program_of space.now) (view self.old.desk).draws self.old.spare self.new) }
         ensures bare { OnOk result (OwnsNothing asked.new) }
         ensures drew { DrewAStep task (view self.old.desk).draws (view self.new.desk).draws }
+        ensures says { OnOk result (SaysFirst (Sent object method held.first) (view self.old.desk).draws (view self.new.desk).draws) }
         ensures short { OnErr result (IsOutOfMemory space.now self.new) }
     {
         let mut task = task;
@@ -213,9 +214,10 @@ impl Worker {
         ensures over { OnOk result (self.new.spent ≡ true → self.new.task ≡ None) }
         ensures went { OnOk result (HasGoneOn (view self.old.desk).kept task self.new) }
         ensures plays { OnOk result (PlaysNext G.knows (view self.old.desk).kept task self.new) }
-        ensures stock { OnOk result (StillStocked (view self.old.desk).draws self.old.spare self.new) }
+        ensures stock { OnOk result (StillStocked (program_of space.now) (view self.old.desk).draws self.old.spare self.new) }
         ensures bare { OnOk result (OwnsNothing asked.new) }
         ensures drew { DrewAStep task (view self.old.desk).draws (view self.new.desk).draws }
+        ensures says { OnOk result (SaysFirst (Called object method held.first) (view self.old.desk).draws (view self.new.desk).draws) }
         ensures short { OnErr result (IsOutOfMemory space.now self.new) }
     {
         let mut task = task;

@@ -1,5 +1,5 @@
 //! A worker minds a message that it sent off: it looks for chords with the message, and fires one.
-ghost use Rattle.std.specs.Prelude.{◌≡◌, ◌<◌, ℕ, true, false, None, OnOk, OnErr, vec_len, vec_capacity};
+ghost use Rattle.std.specs.Prelude.{◌≡◌, ◌<◌, ℕ, true, false, None, IsOk, OnOk, OnErr, vec_len, vec_capacity};
 ghost use Rattle.chord_base.specs.Story.{IsSound};
 ghost use Rattle.chord_match.specs.Findings.{IsMatch};
 ghost use Rattle.chord_match.specs.Fires.{IsLost};
@@ -74,7 +74,8 @@ impl Worker {
         }
     }
 
-    /// Fires the chord with these members, unless one is gone. Whether there is nothing left to mind. There is room for the firing's entry.
+    /// Fires the chord with these members, unless one is gone. Whether there is nothing left to mind; where something is, the desk alone has
+    /// changed. There is room for the firing's entry.
     fn try_to_fire<G: Gate>(
         &mut self,
         space: &Space<Parcel>,
@@ -100,7 +101,7 @@ impl Worker {
         ensures role { IsSameRole (view self.old.desk) (view self.new.desk) }
         ensures minded { result ≡ true → WasMinded G.knows (view self.old.desk).kept self.old.task self.new message.number }
         ensures same { result ≡ false → StillPlays (view self.old.desk).kept self.old.task self.new }
-        ensures stock { StillStocked (view self.old.desk).draws self.old.spare self.new }
+        ensures stock { StillStocked (program_of space.now) (view self.old.desk).draws self.old.spare self.new }
         ensures drew { DrewFiring (view self.old.desk).draws (view self.new.desk).draws }
         ensures undrawn { result ≡ false → (view self.new.desk).draws ≡ (view self.old.desk).draws }
         ensures lost { result ≡ false → (i : ℕ) × IsLost space.now.events (view self.old.desk) (view self.new.desk) members.now nexts.now i }
@@ -139,7 +140,7 @@ impl Worker {
         }
     }
 
-    /// Looks for a chord with the message, and fires it. Whether there is nothing left to mind; if there is, the desk alone has changed.
+    /// Looks for a chord with the message, and fires it. Whether there is nothing left to mind; where something is, the desk alone has changed.
     fn attend<G: Gate>(
         &mut self,
         space: &Space<Parcel>,
@@ -161,7 +162,7 @@ impl Worker {
         ensures role { IsSameRole (view self.old.desk) (view self.new.desk) }
         ensures minded { result ≡ true → WasMinded G.knows (view self.old.desk).kept self.old.task self.new message.number }
         ensures same { result ≡ false → StillPlays (view self.old.desk).kept self.old.task self.new }
-        ensures stock { StillStocked (view self.old.desk).draws self.old.spare self.new }
+        ensures stock { StillStocked (program_of space.now) (view self.old.desk).draws self.old.spare self.new }
         ensures drew { DrewFiring (view self.old.desk).draws (view self.new.desk).draws }
         ensures undrawn { result ≡ false → (view self.new.desk).draws ≡ (view self.old.desk).draws }
         ensures hindered { result ≡ false → IsHindered (program_of space.now) space.now.events (view self.old.desk) (view self.new.desk) message.number message.object message.method }
@@ -188,7 +189,7 @@ impl Worker {
     }
 
     /// Minds the message until nothing is left to mind: it was taken, or no chord with it is enabled, or one was fired. There is room for
-    /// the entry of a firing before any is looked for.
+    /// the entry of a firing before any is looked for; where the list has room already, there is no want of memory.
     pub(crate) fn mind<R: Wait, G: Gate>(
         &mut self,
         rt: &R,
@@ -207,8 +208,9 @@ impl Worker {
         ensures over { OnOk result (IsAtRest space.now self.new × (self.new.spent ≡ true → self.new.task ≡ None)) }
         ensures role { OnOk result (IsSameRole (view self.old.desk) (view self.new.desk)) }
         ensures minded { OnOk result (WasMinded G.knows (view self.old.desk).kept self.old.task self.new message.number) }
-        ensures stock { OnOk result (StillStocked (view self.old.desk).draws self.old.spare self.new) }
+        ensures stock { OnOk result (StillStocked (program_of space.now) (view self.old.desk).draws self.old.spare self.new) }
         ensures drew { DrewFiring (view self.old.desk).draws (view self.new.desk).draws }
+        ensures roomy { vec_len self.old.draws < vec_capacity self.old.draws → IsOk result }
         ensures short { OnErr result (IsOutOfMemory space.now self.new) }
     {
         if !reserve_draw(&mut self.draws) {
@@ -243,7 +245,7 @@ impl Worker {
         ensures over { IsAtRest space.now self.new × (self.new.spent ≡ true → self.new.task ≡ None) }
         ensures role { IsSameRole (view self.old.desk) (view self.new.desk) }
         ensures minded { WasMinded G.knows (view self.old.desk).kept self.old.task self.new message.number }
-        ensures stock { StillStocked (view self.old.desk).draws self.old.spare self.new }
+        ensures stock { StillStocked (program_of space.now) (view self.old.desk).draws self.old.spare self.new }
         ensures drew { DrewFiring (view self.old.desk).draws (view self.new.desk).draws }
     {
         let backoff = Backoff::new();

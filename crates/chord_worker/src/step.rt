@@ -3,6 +3,7 @@ ghost use Rattle.std.specs.Prelude.{◌≡◌, ◌≢◌, ◌⊎◌, Bool, true,
 ghost use Rattle.chord_base.specs.declared.event.End.{End as AnEnd};
 ghost use Rattle.chord_base.specs.declared.event.Entry.{Entry as AnEntry};
 ghost use Rattle.chord_base.specs.declared.event.Limits.{Limits as TheLimits};
+ghost use Rattle.chord_base.specs.Printed.{is_end};
 ghost use Rattle.chord_base.specs.Story.{IsSound};
 ghost use Rattle.chord_code.specs.declared.parts.Parts.{Parts};
 ghost use Rattle.chord_space.specs.Desks.{view, space_code, space_limits, program_of, IsDeskOf};
@@ -12,7 +13,7 @@ ghost use Rattle.chord_task.specs.Turning.{HasCome, OwnsNothing};
 ghost use Rattle.chord_vm.specs.Frames.{what_of_ask};
 ghost use Rattle.chord_worker.specs.Playing.{IsNoMessage};
 ghost use Rattle.chord_worker.specs.Resting.{IsInMemory, IsStock, MayContinue, IsAtRest, IsSameRole, IsOutOfMemory};
-ghost use Rattle.chord_worker.specs.Stepping.{DrewAStep, HasGoneOn, PlaysNoOther, PlaysNext, StillStocked};
+ghost use Rattle.chord_worker.specs.Stepping.{DrewAStep, HasGoneOn, HasStockAfter, PlaysNoOther, PlaysNext, SaysFirst};
 
 use crate::fired::lay_off;
 use crate::playing::{draw_own, see_to_stock};
@@ -43,15 +44,16 @@ pub(crate) fn put_task(place: &mut Option<Apart<Task>>, task: Apart<Task>)
 }
 
 impl Worker {
-    /// The task is played on if it may go on; else the worker has no more use for it.
+    /// The task is played on if it may go on; else the worker has no more use for it. Nothing comes into the stock while a body is left in the task.
     #[inline(always)]
     pub(crate) fn settle(&mut self, task: Apart<Task>)
         requires none { self.old.task ≡ None }
         ensures same { (self.new.desk ≡ self.old.desk) × (self.new.spent ≡ self.old.spent) }
         ensures lists { (self.new.draws ≡ self.old.draws) × (self.new.taken ≡ self.old.taken) }
-        ensures spare { self.old.spare ≢ None → self.new.spare ≡ self.old.spare }
+        ensures stays { self.old.spare ≢ None → self.new.spare ≡ self.old.spare }
         ensures stock { (code : Parts) (limits : TheLimits) → IsTaskOf code limits task → IsStock code limits self.old.spare → IsStock code limits self.new.spare }
         ensures serves { self.old.spare ≡ None → task.top ≡ None → self.new.spare ≢ None }
+        ensures unmade { (view_of task).top ≢ None → self.new.spare ≡ self.old.spare }
         ensures task { (self.new.task ≡ None) ⊎ (self.new.task ≡ Some task) }
         ensures settled { (code : Parts) (limits : TheLimits) (kept : List AnEntry) (spent : Bool) → IsInMemory code limits kept spent (Some task) → IsInMemory code limits kept spent self.new.task × MayContinue self.new.task }
     {
@@ -68,9 +70,10 @@ impl Worker {
         ensures frame { self.new ≡ record self.old { spare = self.new.spare } }
         ensures same { (self.new.desk ≡ self.old.desk) × (self.new.task ≡ self.old.task) × (self.new.spent ≡ self.old.spent) }
         ensures lists { (self.new.draws ≡ self.old.draws) × (self.new.taken ≡ self.old.taken) }
-        ensures spare { self.old.spare ≢ None → self.new.spare ≡ self.old.spare }
+        ensures stays { self.old.spare ≢ None → self.new.spare ≡ self.old.spare }
         ensures stock { (code : Parts) (limits : TheLimits) → IsTaskOf code limits task → IsStock code limits self.old.spare → IsStock code limits self.new.spare }
         ensures serves { self.old.spare ≡ None → (view_of task).top ≡ None → self.new.spare ≢ None }
+        ensures unmade { (view_of task).top ≢ None → self.new.spare ≡ self.old.spare }
     {
         if self.spare.is_some() || !task.value.over() {
             return;
@@ -89,7 +92,8 @@ impl Worker {
         lay_off(task);
     }
 
-    /// An ask that is no message becomes an entry.
+    /// An ask that is no message becomes an entry. What is in stock stays; something comes there with an end alone, and with that of the last body
+    /// of the task something is there.
     pub(crate) fn play_own(
         &mut self,
         alloc: Global,
@@ -112,9 +116,11 @@ impl Worker {
         ensures went { OnOk result (HasGoneOn (view self.old.desk).kept task self.new) }
         ensures plays { OnOk result (PlaysNoOther task self.new.task) }
         ensures stays { OnOk result (self.old.spare ≢ None → self.new.spare ≡ self.old.spare) }
+        ensures unmade { OnOk result ((a : Ask) → asked.old ≡ Some a → is_end (what_of_ask a) ≡ false → self.new.spare ≡ self.old.spare) }
         ensures stocked { OnOk result ((e : AnEnd) → asked.old ≡ Some (Ask.End e) → vec_len task.below ≡ 0 → (self.new.spare ≢ None) ⊎ (self.new.spent ≡ true)) }
         ensures bare { OnOk result (OwnsNothing asked.new) }
         ensures drew { DrewAStep task (view self.old.desk).draws (view self.new.desk).draws }
+        ensures says { OnOk result ((a : Ask) → asked.old ≡ Some a → SaysFirst (what_of_ask a) (view self.old.desk).draws (view self.new.desk).draws) }
         ensures short { OnErr result (IsOutOfMemory space.now self.new) }
     {
         let mut task = task;
@@ -140,7 +146,8 @@ impl Worker {
 }
 
 impl Worker {
-    /// An ask becomes an entry, with what follows from it. What owns memory is taken out of it.
+    /// An ask becomes an entry, with what follows from it. What owns memory is taken out of it. The stock is seen to where a message is played, and
+    /// nowhere else: so it is empty when the body of an asynchronous firing ends, and the memory of its task serves for the next one.
     fn play<R: Wait, G: Gate>(
         &mut self,
         rt: &R,
@@ -164,7 +171,7 @@ impl Worker {
         ensures over { OnOk result (self.new.spent ≡ true → self.new.task ≡ None) }
         ensures went { OnOk result (HasGoneOn (view self.old.desk).kept task self.new) }
         ensures plays { OnOk result (PlaysNext G.knows (view self.old.desk).kept task self.new) }
-        ensures stock { OnOk result (StillStocked (view self.old.desk).draws self.old.spare self.new) }
+        ensures stock { OnOk result (HasStockAfter (program_of space.now) (view self.old.desk).draws self.old.spare self.new) }
         ensures bare { OnOk result (OwnsNothing asked.new) }
         ensures drew { DrewAStep task (view self.old.desk).draws (view self.new.desk).draws }
         ensures short { OnErr result (IsOutOfMemory space.now self.new) }
@@ -210,9 +217,10 @@ impl Worker {
     /// minded until it is taken or no chord with it is enabled; a firing's body begins; the memory of a task that is over serves for
     /// another. Where the limit on events is reached the task is laid down. So afterwards the desk keeps a newer entry than all that it kept, or the
     /// task went away with its call, or the desk was told of the limit. The gate knows of each body that the worker begins to play, and
-    /// no step goes on with such a body: beside at most one firing it draws entries of the body on top alone. What is in stock stays there, unless
-    /// such a firing was drawn.
-    /// Want of memory is an `Err`: the task is gone, and each entry that was drawn stands in the lists, since there is room for it before it is drawn.
+    /// no step goes on with such a body: beside at most one firing it draws entries of the body on top alone. What is in stock stays there, and
+    /// after a message something is there, unless a firing that serves no call was drawn last; with an ask that is neither a message nor an
+    /// end nothing comes there. Want of memory is an `Err`: the task is gone, and each entry that was drawn stands in the lists, since there is
+    /// room for it before it is drawn.
     pub fn step<R: Wait, G: Gate>(
         &mut self,
         rt: &R,
@@ -231,7 +239,7 @@ impl Worker {
         ensures over { OnOk result ((view self.new.desk).spent ≡ true → self.new.task ≡ None) }
         ensures went { OnOk result ((t : TheTask) → self.old.task ≡ Some t → HasGoneOn (view self.old.desk).kept t self.new) }
         ensures plays { OnOk result ((t : TheTask) → self.old.task ≡ Some t → PlaysNext G.knows (view self.old.desk).kept t self.new) }
-        ensures stock { OnOk result (StillStocked (view self.old.desk).draws self.old.spare self.new) }
+        ensures stock { OnOk result (HasStockAfter (program_of space.now) (view self.old.desk).draws self.old.spare self.new) }
         ensures drew { (t : TheTask) → self.old.task ≡ Some t → DrewAStep t (view self.old.desk).draws (view self.new.desk).draws }
         ensures short { OnErr result (IsOutOfMemory space.now self.new) }
     {

@@ -3,7 +3,7 @@ use Rattle.chord_bag.specs.Reads.{IsOnlyLooks}
 use Rattle.chord_match.specs.Findings.{read_so}
 use Rattle.chord_rule.specs.declared.view.View.{View}
 use Rattle.chord_rule.specs.Duties.{HasDuty}
-use Rattle.chord_space.specs.Desks.{view}
+use Rattle.chord_space.specs.Desks.{view, program_of}
 use Rattle.chord_word.specs.declared.cells.Cell.TheVariants as a_cell
 use Rattle.chord_worker.proofs.Attending.{the_duty, still_minds, minded, looks_kept, looks_draws, looks_on, cell_looks}
 use Rattle.chord_worker.proofs.Drawn.{drew_since}
@@ -152,7 +152,7 @@ returns-in-Taken-clause-drew g c = inl (ap (λ (z : View). z.draws) c.in-Taken.e
 
 pub returns-in-Match-clause-stock : goal.returns-in-Match-clause-stock
 returns-in-Match-clause-stock g c =
-    stocked_alike (view c.args.self.now.desk).draws (view c.find.new.desk).draws c.args.self.now.spare c.args.self.now.spare c.try_to_fire.new.self (λ _. refl) c.try_to_fire.ensures.stock
+    stocked_alike (program_of c.args.space.now) (view c.args.self.now.desk).draws (view c.find.new.desk).draws c.args.self.now.spare c.args.self.now.spare c.try_to_fire.new.self (λ _. refl) c.try_to_fire.ensures.stock
     (looks_draws (view c.args.self.now.desk) (view c.find.new.desk) (looks_on _ _ _ (cell_looks (view c.args.self.now.desk) c.args.message.number (record { cell = a_cell.Pending; next = c.in-Match.ensures.finding.next })) c.in-Match.ensures.finding.sought.grows.only))
 
 pub returns-in-Busy-clause-stock : goal.returns-in-Busy-clause-stock

@@ -1,6 +1,6 @@
 use Rattle.std.proofs.Common.{◌≡◌, sym, ◌∙◌, Some, None, inl, inr, ⊎_elim}
 use Rattle.chord_task.specs.Gathering.{gathered_in}
-use Rattle.chord_worker.proofs.Beginning.{task_is, may_be_begun, twice, few_values, begun_there}
+use Rattle.chord_worker.proofs.Beginning.{caller_came, task_is, may_be_begun, twice, few_values, begun_there}
 use Rattle.chord_worker.proofs.worker.Worker.begin_fired.Goals as goal
 
 pub take_task-task-requires : goal.take_task-task-requires
@@ -33,4 +33,8 @@ pub returns-clause-spare : goal.returns-clause-spare
 returns-clause-spare g c = ⊎_elim (λ same. inl (c.take_on.ensures.spare ∙ same)) (λ none. inr (c.take_on.ensures.spare ∙ none)) c.take_task-task.ensures.spare
 
 pub returns-clause-kept : goal.returns-clause-kept
-returns-clause-kept g c = λ some. c.take_on.ensures.spare ∙ c.take_task-task.ensures.kept (λ none. some (sym c.take.ensures.value ∙ none))
+returns-clause-kept g c = λ v qs unpacked fired.
+    ⊎_elim
+    (λ some. inl (c.take_on.ensures.spare ∙ c.take_task-task.ensures.kept some))
+    (λ none. inr none)
+    (caller_came _ _ _ _ _ _ _ _ fired c.requires.sound _ c.requires.code c.chords_are_right.ensures _ (c.take.ensures.value ∙ unpacked.caller_is) _ c.take_task-task.ensures.task (gathered_in c.args.unpacked.now.arguments.one c.args.unpacked.now.arguments.more) unpacked.gathered.values unpacked.gathered.twice)

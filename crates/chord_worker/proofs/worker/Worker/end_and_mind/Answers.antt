@@ -9,7 +9,7 @@ use Rattle.chord_base.specs.Story.{IsIn}
 use Rattle.chord_rule.specs.declared.view.View.{View}
 use Rattle.chord_rule.specs.Made.{key}
 use Rattle.chord_space.specs.declared.space.Desk.{Desk}
-use Rattle.chord_space.specs.Desks.{view, space_code, space_limits, IsSameDesk}
+use Rattle.chord_space.specs.Desks.{view, space_code, space_limits, program_of, IsSameDesk}
 use Rattle.chord_task.specs.declared.parcel.Opened.{Opened as Parcel}
 use Rattle.chord_task.specs.declared.task.Task.{Task}
 use Rattle.chord_task.specs.Standing.{body_may_go, body_number}
@@ -68,7 +68,7 @@ pub returns-in_ok-mind-in-Some-clause-stocked : goal.returns-in_ok-mind-in-Some-
 returns-in_ok-mind-in-Some-clause-stocked g c =
     let n = c.in-Some.field-0 in
     let top = value_of_some _ n (λ _. (e : End) → c.replace.new.dest ≡ Some (ask.End e) → vec_len c.args.task.below ≡ 0 → c.draw_own.new.task.top ≡ None) c.in-Some.is c.in_ok-draw_own.ensures.over (Gives a_value.Unit) c.replace.ensures.after c.requires.alone in
-    stays_stocked c.mind.new.self.spare c.retire.new.self.spare c.retire.ensures.spare (λ none. c.retire.ensures.serves none (ap body_number top))
+    stays_stocked c.mind.new.self.spare c.retire.new.self.spare c.retire.ensures.stays (λ none. c.retire.ensures.serves none (ap body_number top))
 
 pub returns-in_ok-mind-in-Some-clause-role : goal.returns-in_ok-mind-in-Some-clause-role
 returns-in_ok-mind-in-Some-clause-role g c =
@@ -142,9 +142,9 @@ returns-in_err-draw_own-clause-drew g c = λ b top. inl (inl (ap (λ (z : View).
 pub returns-in_ok-mind-in-Some-clause-stock : goal.returns-in_ok-mind-in-Some-clause-stock
 returns-in_ok-mind-in-Some-clause-stock g c =
     let w = c.args.self.now in
-    stocked_retired (view w.desk).draws w.spare c.mind.new.self c.retire.new.self c.retire.ensures.same.0 c.retire.ensures.spare
+    stocked_retired (program_of c.args.space.now) (view w.desk).draws w.spare c.mind.new.self c.retire.new.self c.retire.ensures.same.0 c.retire.ensures.stays
     (step_stocked c.args.space.now (view w.desk) (view c.draw_own.new.desk) c.replace.new.dest c.args.task c.draw_own.new.task _ c.in-Some.field-0 c.in-Some.is c.in_ok-draw_own.ensures.noted (ask.End (Gives a_value.Unit)) c.args.task c.replace.ensures.after c.requires.came
-    (view c.draw_own.new.desk).draws w.spare w.spare c.mind.new.self refl (λ _. refl) c.in_ok-mind-in-Some.ensures.stock)
+    (program_of c.args.space.now) (view c.draw_own.new.desk).draws w.spare w.spare c.mind.new.self refl (λ _. refl) c.in_ok-mind-in-Some.ensures.stock)
 
 pub returns-in-None-clause-stock : goal.returns-in-None-clause-stock
 returns-in-None-clause-stock g c = λ _. inl c.lay_down.ensures.same.1

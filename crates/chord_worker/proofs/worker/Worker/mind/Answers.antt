@@ -1,5 +1,5 @@
-use Rattle.std.proofs.Common.{◌<◌, sym, ap, subst, inl, vec_len, vec_capacity}
-use Rattle.chord_space.specs.Desks.{view}
+use Rattle.std.proofs.Common.{◌≡◌, ◌<◌, true, false, sym, ◌∙◌, ap, subst, inl, vec_len, vec_capacity}
+use Rattle.chord_space.specs.Desks.{view, program_of}
 use Rattle.chord_worker.specs.declared.worker.Worker.{Worker}
 use Rattle.chord_worker.specs.Resting.{IsOutOfMemory}
 use Rattle.chord_worker.proofs.Attending.{role_on, minds_roomier, out_of_memory}
@@ -33,7 +33,7 @@ mind_on-requires-clause-place g c =
 
 pub returns-clause-stock : goal.returns-clause-stock
 returns-clause-stock g c =
-    stocked_alike (view c.args.self.now.desk).draws (view c.attend.new.self.desk).draws c.args.self.now.spare c.attend.new.self.spare c.mind_on.new.self (λ _. ap (λ (w : Worker). w.spare) (c.attend.ensures.frame c.if-attend.false))
+    stocked_alike (program_of c.args.space.now) (view c.args.self.now.desk).draws (view c.attend.new.self.desk).draws c.args.self.now.spare c.attend.new.self.spare c.mind_on.new.self (λ _. ap (λ (w : Worker). w.spare) (c.attend.ensures.frame c.if-attend.false))
     c.mind_on.ensures.stock (c.attend.ensures.undrawn c.if-attend.false)
 
 pub returns-then-not-reserve_draw-clause-short : goal.returns-then-not-reserve_draw-clause-short
@@ -43,3 +43,8 @@ returns-then-not-reserve_draw-clause-short g c =
 
 pub returns-then-not-reserve_draw-clause-drew : goal.returns-then-not-reserve_draw-clause-drew
 returns-then-not-reserve_draw-clause-drew g c = inl (ap (λ (w : Worker). (view w.desk).draws) c.drop_task.ensures.frame)
+
+pub returns-then-not-reserve_draw-clause-roomy : goal.returns-then-not-reserve_draw-clause-roomy
+returns-then-not-reserve_draw-clause-roomy g c = λ room.
+    let z : false ≡ true = sym c.if-not-reserve_draw.true ∙ (c.reserve_draw.ensures.stays room).1 in
+    absurd (cc)

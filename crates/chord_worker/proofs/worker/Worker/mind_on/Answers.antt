@@ -1,5 +1,5 @@
 use Rattle.std.proofs.Common.{◌<◌, sym, ap, ◌∙◌, subst, vec_len, vec_capacity}
-use Rattle.chord_space.specs.Desks.{view}
+use Rattle.chord_space.specs.Desks.{view, program_of}
 use Rattle.chord_worker.proofs.Attending.{role_on}
 use Rattle.chord_worker.specs.declared.worker.Worker.{Worker}
 use Rattle.chord_worker.proofs.Drawn.{drew_since}
@@ -25,4 +25,4 @@ returns-then-attend-clause-drew g c = drew_since (view c.args.self.now.desk).dra
 
 pub returns-then-attend-clause-stock : goal.returns-then-attend-clause-stock
 returns-then-attend-clause-stock g c =
-    stocked_alike (view c.args.self.now.desk).draws (view c.loop.self.desk).draws c.args.self.now.spare c.loop.self.spare c.attend.new.self (λ _. c.loop.invariant.6) c.attend.ensures.stock c.loop.invariant.4
+    stocked_alike (program_of c.args.space.now) (view c.args.self.now.desk).draws (view c.loop.self.desk).draws c.args.self.now.spare c.loop.self.spare c.attend.new.self (λ _. c.loop.invariant.6) c.attend.ensures.stock c.loop.invariant.4

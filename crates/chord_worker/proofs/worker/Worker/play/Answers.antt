@@ -1,13 +1,16 @@
-use Rattle.std.proofs.Common.{List, Some, refl, sym, ap, ◌∙◌, subst, inl}
+use Rattle.std.proofs.Common.{List, Some, refl, sym, ap, ◌∙◌, subst}
 use Rattle.chord_base.specs.declared.event.What.TheVariants.{Sent, Called}
 use Rattle.chord_base.specs.declared.value.Value.{Value}
-use Rattle.chord_space.specs.Desks.{view, space_code, space_limits}
+use Rattle.chord_base.specs.Messages.{message_of}
+use Rattle.chord_space.specs.Desks.{view, space_code, space_limits, program_of}
 use Rattle.chord_task.specs.declared.task.Task.{Task}
 use Rattle.chord_task.specs.Turning.{HasCome}
+use Rattle.chord_vm.specs.declared.ask.Ask.{Ask}
 use Rattle.chord_vm.specs.declared.ask.Ask.TheVariants as ask
+use Rattle.chord_vm.specs.Frames.{what_of_ask}
 use Rattle.chord_worker.specs.Resting.{IsAtRest}
 use Rattle.chord_worker.proofs.Given.{stock_of, came_stocked}
-use Rattle.chord_worker.proofs.Stocked.{stocked_alike}
+use Rattle.chord_worker.proofs.Stocked.{message_stocked, own_stocked}
 use Rattle.chord_worker.proofs.worker.Worker.play.Goals as goal
 
 pub play_sent-requires-clause-came : goal.play_sent-requires-clause-came
@@ -37,19 +40,25 @@ play_own-requires-in-End-clause-came g c = λ a e. c.requires.came a (c.in-Some.
 
 pub returns-in_ok-play_sent-in-Send-clause-stock : goal.returns-in_ok-play_sent-in-Send-clause-stock
 returns-in_ok-play_sent-in-Send-clause-stock g c =
-    let before = (view c.args.self.now.desk).draws in
-    stocked_alike before before c.args.self.now.spare c.see_to_stock.new.stock c.play_sent.new.self (λ there. (c.see_to_stock.ensures.stays there).0) c.in_ok-play_sent-in-Send.ensures.stock refl
+    message_stocked (program_of c.args.space.now) (view c.args.self.now.desk).draws c.args.self.now.spare c.play_sent.new.self _ c.in_ok-play_sent-in-Send.ensures.says
+    c.see_to_stock.new.stock (λ there. (c.see_to_stock.ensures.stays there).0) c.in_ok-see_to_stock-in-Send.ensures.some c.in_ok-play_sent-in-Send.ensures.stock refl
 
 pub returns-in_ok-play_called-in-Call-clause-stock : goal.returns-in_ok-play_called-in-Call-clause-stock
 returns-in_ok-play_called-in-Call-clause-stock g c =
-    let before = (view c.args.self.now.desk).draws in
-    stocked_alike before before c.args.self.now.spare c.see_to_stock-in-Call.new.stock c.play_called.new.self (λ there. (c.see_to_stock-in-Call.ensures.stays there).0) c.in_ok-play_called-in-Call.ensures.stock refl
+    message_stocked (program_of c.args.space.now) (view c.args.self.now.desk).draws c.args.self.now.spare c.play_called.new.self _ c.in_ok-play_called-in-Call.ensures.says
+    c.see_to_stock-in-Call.new.stock (λ there. (c.see_to_stock-in-Call.ensures.stays there).0) c.in_ok-see_to_stock-in-Call.ensures.some c.in_ok-play_called-in-Call.ensures.stock refl
 
 pub returns-in_ok-play_own-in-Make-clause-stock : goal.returns-in_ok-play_own-in-Make-clause-stock
-returns-in_ok-play_own-in-Make-clause-stock g c = λ there. inl (c.in_ok-play_own-in-Make.ensures.stays there)
+returns-in_ok-play_own-in-Make-clause-stock g c =
+    own_stocked (program_of c.args.space.now) (view c.args.self.now.desk).draws c.args.self.now.spare c.play_own.new.self (what_of_ask c.in-Some.ask) (c.in_ok-play_own-in-Make.ensures.says c.in-Some.ask refl)
+    c.in_ok-play_own-in-Make.ensures.stays (c.in_ok-play_own-in-Make.ensures.unmade c.in-Some.ask refl) (ap (λ (a : Ask). message_of (what_of_ask a)) c.in-Make.is)
 
 pub returns-in_ok-play_own-in-Print-clause-stock : goal.returns-in_ok-play_own-in-Print-clause-stock
-returns-in_ok-play_own-in-Print-clause-stock g c = λ there. inl (c.in_ok-play_own-in-Print.ensures.stays there)
+returns-in_ok-play_own-in-Print-clause-stock g c =
+    own_stocked (program_of c.args.space.now) (view c.args.self.now.desk).draws c.args.self.now.spare c.play_own-in-Print.new.self (what_of_ask c.in-Some.ask) (c.in_ok-play_own-in-Print.ensures.says c.in-Some.ask refl)
+    c.in_ok-play_own-in-Print.ensures.stays (c.in_ok-play_own-in-Print.ensures.unmade c.in-Some.ask refl) (ap (λ (a : Ask). message_of (what_of_ask a)) c.in-Print.is)
 
 pub returns-in_ok-play_own-in-End-clause-stock : goal.returns-in_ok-play_own-in-End-clause-stock
-returns-in_ok-play_own-in-End-clause-stock g c = λ there. inl (c.in_ok-play_own-in-End.ensures.stays there)
+returns-in_ok-play_own-in-End-clause-stock g c =
+    own_stocked (program_of c.args.space.now) (view c.args.self.now.desk).draws c.args.self.now.spare c.play_own-in-End.new.self (what_of_ask c.in-Some.ask) (c.in_ok-play_own-in-End.ensures.says c.in-Some.ask refl)
+    c.in_ok-play_own-in-End.ensures.stays (c.in_ok-play_own-in-End.ensures.unmade c.in-Some.ask refl) (ap (λ (a : Ask). message_of (what_of_ask a)) c.in-End.is)

@@ -10,7 +10,7 @@ use Rattle.chord_rule.specs.declared.view.View.{View}
 use Rattle.chord_rule.specs.Kinds.{entry, left_by}
 use Rattle.chord_rule.specs.Made.{key}
 use Rattle.chord_space.specs.declared.space.Desk.{Desk}
-use Rattle.chord_space.specs.Desks.{view, space_code, space_limits, IsSameDesk}
+use Rattle.chord_space.specs.Desks.{view, space_code, space_limits, program_of, IsSameDesk}
 use Rattle.chord_task.specs.declared.parcel.Opened.{Opened as Parcel}
 use Rattle.chord_task.specs.declared.task.Task.{Task}
 use Rattle.chord_task.specs.Standing.{view_of}
@@ -19,7 +19,7 @@ use Rattle.chord_worker.proofs.Given.{only_ask, value_of_some, where_none}
 use Rattle.chord_worker.specs.Resting.{IsInMemory, MayContinue}
 use Rattle.chord_worker.proofs.Resting.{rest_told}
 use Rattle.chord_worker.proofs.Attending.{role_on}
-use Rattle.chord_worker.proofs.Drawn.{was_noted, step_drew, none_drew, step_stocked}
+use Rattle.chord_worker.proofs.Drawn.{was_noted, step_drew, step_says, none_drew, nothing_first, step_stocked}
 use Rattle.chord_worker.proofs.Sent.{task_may, task_left, task_memory, now_minds, minds_role}
 use Rattle.chord_worker.proofs.Stepping.{went_called, plays_minded, gone_on, plays_next}
 use Rattle.chord_worker.specs.Stepping.{PlaysNoOther, WasMinded}
@@ -151,7 +151,17 @@ returns-in_err-number-clause-drew g c = inl (ap (λ (z : View). z.draws) c.in_er
 pub returns-in_ok-mind-in-Some-clause-stock : goal.returns-in_ok-mind-in-Some-clause-stock
 returns-in_ok-mind-in-Some-clause-stock g c =
     step_stocked c.args.space.now (view c.args.self.now.desk) (view c.draw_own.new.desk) c.args.asked.now c.args.task c.draw_own.new.task _ c.in-Some.number c.in-Some.is c.in_ok-number.ensures.noted (ask.Call c.args.object c.args.method c.args.held.first) c.requires.came.0 c.requires.asked c.requires.came.1
-    (view c.send_task.new.desk).draws c.args.self.now.spare c.args.self.now.spare c.mind.new.self c.send_task.ensures.sent.draws (λ _. refl) c.in_ok-mind-in-Some.ensures.stock
+    (program_of c.args.space.now) (view c.send_task.new.desk).draws c.args.self.now.spare c.args.self.now.spare c.mind.new.self c.send_task.ensures.sent.draws (λ _. refl) c.in_ok-mind-in-Some.ensures.stock
 
 pub returns-in-None-clause-stock : goal.returns-in-None-clause-stock
 returns-in-None-clause-stock g c = λ _. inl c.lay_down.ensures.same.1
+
+pub returns-in_ok-mind-in-Some-clause-says : goal.returns-in_ok-mind-in-Some-clause-says
+returns-in_ok-mind-in-Some-clause-says g c =
+    step_says c.args.space.now (view c.args.self.now.desk) (view c.draw_own.new.desk) c.args.asked.now c.args.task c.draw_own.new.task _ c.in-Some.number c.in-Some.is c.in_ok-number.ensures.noted (ask.Call c.args.object c.args.method c.args.held.first) c.requires.came.0 c.requires.asked c.requires.came.1
+    (view c.send_task.new.desk).draws (view c.mind.new.self.desk).draws c.send_task.ensures.sent.draws (λ b top. inl c.mind.ensures.drew)
+
+pub returns-in-None-clause-says : goal.returns-in-None-clause-says
+returns-in-None-clause-says g c =
+    nothing_first (Called c.args.object c.args.method c.args.held.first) (view c.args.self.now.desk).draws (view c.lay_down.new.self.desk).draws
+    (none_drew (view c.args.self.now.desk) (view c.draw_own.new.desk) _ c.in-None.is c.in_ok-number.ensures.told (view c.lay_down.new.self.desk).draws (ap (λ (x : Desk Parcel). (view x).draws) c.lay_down.ensures.same.0))

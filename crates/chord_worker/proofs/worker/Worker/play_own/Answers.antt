@@ -15,7 +15,7 @@ use Rattle.chord_worker.specs.Playing.{DrawsOne, IsNotedAs, IsNotedFrom, HeardOf
 use Rattle.chord_worker.specs.Resting.{IsInMemory}
 use Rattle.chord_worker.proofs.Given.{some_ask, value_of_some, where_none}
 use Rattle.chord_worker.proofs.Ended.{stays_stocked}
-use Rattle.chord_worker.proofs.Drawn.{was_noted, step_drew, none_drew}
+use Rattle.chord_worker.proofs.Drawn.{was_noted, step_drew, step_says, none_drew, nothing_first}
 use Rattle.chord_worker.proofs.Resting.{rest_noted, role_noted, rest_told, role_told}
 use Rattle.chord_worker.specs.Stepping.{PlaysNoOther}
 use Rattle.chord_worker.proofs.Stepping.{newest_is_kept, no_other, still_no_other}
@@ -135,10 +135,31 @@ pub returns-in-Some-clause-stocked : goal.returns-in-Some-clause-stocked
 returns-in-Some-clause-stocked c = λ e asked alone.
     let n = c.in-Some.field-0 in
     let top = value_of_some _ n (λ _. (e : End) → c.args.asked.now ≡ Some (ask.End e) → vec_len c.args.task.below ≡ 0 → c.draw_own.new.task.top ≡ None) c.in-Some.is c.in_ok-draw_own.ensures.over e asked alone in
-    inl (stays_stocked c.args.self.now.spare c.settle.new.self.spare c.settle.ensures.spare (λ none. c.settle.ensures.serves none top))
+    inl (stays_stocked c.args.self.now.spare c.settle.new.self.spare c.settle.ensures.stays (λ none. c.settle.ensures.serves none top))
 
 pub returns-in-Some-clause-stays : goal.returns-in-Some-clause-stays
-returns-in-Some-clause-stays c = c.settle.ensures.spare
+returns-in-Some-clause-stays c = c.settle.ensures.stays
 
 pub returns-in-None-clause-stays : goal.returns-in-None-clause-stays
 returns-in-None-clause-stays c = λ _. c.lay_down.ensures.same.1
+
+pub returns-in-Some-clause-unmade : goal.returns-in-Some-clause-unmade
+returns-in-Some-clause-unmade c = λ a e plain.
+    let y = c.requires.came a e in
+    let noted = was_noted c.args.space.now (view c.args.self.now.desk) (view c.draw_own.new.desk) c.args.asked.now c.args.task c.draw_own.new.task _ c.in-Some.field-0 c.in-Some.is c.in_ok-draw_own.ensures.noted a y.0 e y.1 in
+    c.settle.ensures.unmade (λ none. let z : Some noted.body ≡ None = sym (noted.top plain) ∙ none in cc)
+
+pub returns-in-None-clause-unmade : goal.returns-in-None-clause-unmade
+returns-in-None-clause-unmade c = λ a e plain. c.lay_down.ensures.same.1
+
+pub returns-in-Some-clause-says : goal.returns-in-Some-clause-says
+returns-in-Some-clause-says c = λ a e.
+    let y = c.requires.came a e in
+    let draws = (view c.settle.new.self.desk).draws in
+    step_says c.args.space.now (view c.args.self.now.desk) (view c.draw_own.new.desk) c.args.asked.now c.args.task c.draw_own.new.task _ c.in-Some.field-0 c.in-Some.is c.in_ok-draw_own.ensures.noted a y.0 e y.1
+    draws draws (ap (λ (x : Desk Parcel). (view x).draws) c.settle.ensures.same.0) (λ b top. inl (inl refl))
+
+pub returns-in-None-clause-says : goal.returns-in-None-clause-says
+returns-in-None-clause-says c = λ a e.
+    nothing_first (what_of_ask a) (view c.args.self.now.desk).draws (view c.lay_down.new.self.desk).draws
+    (none_drew (view c.args.self.now.desk) (view c.draw_own.new.desk) _ c.in-None.is c.in_ok-draw_own.ensures.told (view c.lay_down.new.self.desk).draws (ap (λ (x : Desk Parcel). (view x).draws) c.lay_down.ensures.same.0))

@@ -13,7 +13,7 @@ use Rattle.chord_rule.specs.declared.view.View.{View}
 use Rattle.chord_rule.specs.Kinds.{entry}
 use Rattle.chord_rule.specs.Made.{key}
 use Rattle.chord_space.specs.declared.space.Desk.{Desk}
-use Rattle.chord_space.specs.Desks.{view, space_code, space_limits, IsSameDesk}
+use Rattle.chord_space.specs.Desks.{view, space_code, space_limits, program_of, IsSameDesk}
 use Rattle.chord_task.specs.declared.parcel.Opened.{Opened as Parcel}
 use Rattle.chord_worker.specs.Playing.{DrawsOne, HeardOfLimit, IsNotedAs, IsNotedFrom}
 use Rattle.chord_task.proofs.Turning.{runs_ready}
@@ -22,7 +22,7 @@ use Rattle.chord_worker.specs.Sending.{IsSentOff}
 use Rattle.chord_worker.specs.Resting.{IsInMemory}
 use Rattle.chord_worker.proofs.Resting.{rest_told}
 use Rattle.chord_worker.proofs.Attending.{role_on}
-use Rattle.chord_worker.proofs.Drawn.{was_noted, step_drew, none_drew, step_stocked}
+use Rattle.chord_worker.proofs.Drawn.{was_noted, step_drew, step_says, none_drew, nothing_first, step_stocked}
 use Rattle.chord_worker.proofs.Sent.{letter_may, letter_memory, now_minds, minds_role}
 use Rattle.chord_worker.proofs.Parts.{all_kept}
 use Rattle.chord_worker.specs.Stepping.{PlaysNoOther}
@@ -75,7 +75,7 @@ mind-requires-clause-minds g c =
     let same = subst (λ (x : Desk Parcel). IsSameDesk w.desk x) (sym d) (c.send_letter.ensures.desk.0 ∙ c.draw_own.ensures.desk.0, c.send_letter.ensures.desk.1 ∙ c.draw_own.ensures.desk.1) in
     let settled = c.settle.ensures.settled (space_code s) (space_limits s) (view w'.desk).kept (view w.desk).spent
     (letter_memory s w c.requires.came.0 c.requires.came.2 c.draw_own.new.task c.in-Some.number v c.args.object c.args.method c.args.held.first noted (view w'.desk) k sent) in
-    now_minds s w c.requires.came.0 c.requires.came.2 c.draw_own.new.task c.in-Some.number v what noted refl c.requires.room c.requires.stock w' k [] sent same (c.settle.ensures.spare c.requires.stock) c.settle.ensures.same.1 settled.0 settled.1
+    now_minds s w c.requires.came.0 c.requires.came.2 c.draw_own.new.task c.in-Some.number v what noted refl c.requires.room c.requires.stock w' k [] sent same (c.settle.ensures.stays c.requires.stock) c.settle.ensures.same.1 settled.0 settled.1
     (subst (λ (x : Vec Entry Global). DrawsOne (view w.desk).draws v.draws w.draws.items x.items) (sym c.settle.ensures.lists.0)
     (value_of_some _ c.in-Some.number (λ _. DrawsOne (view w.desk).draws (view c.draw_own.new.desk).draws w.draws.items c.draw_own.new.draws.items) c.in-Some.is c.in_ok-number.ensures.listed))
     (ap (λ (x : Vec (Vec Entry Global) Global). x.items) c.settle.ensures.lists.1)
@@ -129,7 +129,7 @@ returns-in_ok-mind-in-Some-clause-role g c =
     let v = view c.draw_own.new.desk in
     let sent = subst (λ (x : Desk Parcel). IsSentOff v (view x) c.in-Some.number k []) (sym d) c.send_letter.ensures.sent in
     let same = subst (λ (x : Desk Parcel). IsSameDesk w.desk x) (sym d) (c.send_letter.ensures.desk.0 ∙ c.draw_own.ensures.desk.0, c.send_letter.ensures.desk.1 ∙ c.draw_own.ensures.desk.1) in
-    role_on (view w.desk) (view w'.desk) (view c.mind.new.self.desk) (minds_role s w c.requires.came.0 c.requires.came.2 c.draw_own.new.task c.in-Some.number v what noted refl c.requires.room c.requires.stock w' k [] sent same (c.settle.ensures.spare c.requires.stock) c.settle.ensures.same.1) c.in_ok-mind-in-Some.ensures.role
+    role_on (view w.desk) (view w'.desk) (view c.mind.new.self.desk) (minds_role s w c.requires.came.0 c.requires.came.2 c.draw_own.new.task c.in-Some.number v what noted refl c.requires.room c.requires.stock w' k [] sent same (c.settle.ensures.stays c.requires.stock) c.settle.ensures.same.1) c.in_ok-mind-in-Some.ensures.role
 
 pub comes_to_end-requires : goal.comes_to_end-requires
 comes_to_end-requires g c =
@@ -218,12 +218,27 @@ returns-in_err-number-clause-drew g c = inl (ap (λ (z : View). z.draws) c.in_er
 pub returns-in_ok-mind-in-Some-clause-stock : goal.returns-in_ok-mind-in-Some-clause-stock
 returns-in_ok-mind-in-Some-clause-stock g c =
     step_stocked c.args.space.now (view c.args.self.now.desk) (view c.draw_own.new.desk) c.args.asked.now c.args.task c.draw_own.new.task _ c.in-Some.number c.in-Some.is c.in_ok-number.ensures.noted (ask.Send c.args.object c.args.method c.args.held.first) c.requires.came.0 c.requires.asked c.requires.came.1
-    (view c.settle.new.self.desk).draws c.args.self.now.spare c.settle.new.self.spare c.mind.new.self (ap (λ (x : Desk Parcel). (view x).draws) c.settle.ensures.same.0 ∙ c.send_letter.ensures.sent.draws) c.settle.ensures.spare c.in_ok-mind-in-Some.ensures.stock
+    (program_of c.args.space.now) (view c.settle.new.self.desk).draws c.args.self.now.spare c.settle.new.self.spare c.mind.new.self (ap (λ (x : Desk Parcel). (view x).draws) c.settle.ensures.same.0 ∙ c.send_letter.ensures.sent.draws) c.settle.ensures.stays c.in_ok-mind-in-Some.ensures.stock
 
 pub returns-then-comes_to_end-clause-stock : goal.returns-then-comes_to_end-clause-stock
 returns-then-comes_to_end-clause-stock g c =
     step_stocked c.args.space.now (view c.args.self.now.desk) (view c.draw_own.new.desk) c.args.asked.now c.args.task c.draw_own.new.task _ c.in-Some.number c.in-Some.is c.in_ok-number.ensures.noted (ask.Send c.args.object c.args.method c.args.held.first) c.requires.came.0 c.requires.asked c.requires.came.1
-    (view c.send_letter.new.desk).draws c.args.self.now.spare c.args.self.now.spare c.end_and_mind.new.self c.send_letter.ensures.sent.draws (λ _. refl) c.in_ok-end_and_mind-in-Some.ensures.stock
+    (program_of c.args.space.now) (view c.send_letter.new.desk).draws c.args.self.now.spare c.args.self.now.spare c.end_and_mind.new.self c.send_letter.ensures.sent.draws (λ _. refl) c.in_ok-end_and_mind-in-Some.ensures.stock
 
 pub returns-in-None-clause-stock : goal.returns-in-None-clause-stock
 returns-in-None-clause-stock g c = λ _. inl c.lay_down.ensures.same.1
+
+pub returns-in_ok-mind-in-Some-clause-says : goal.returns-in_ok-mind-in-Some-clause-says
+returns-in_ok-mind-in-Some-clause-says g c =
+    step_says c.args.space.now (view c.args.self.now.desk) (view c.draw_own.new.desk) c.args.asked.now c.args.task c.draw_own.new.task _ c.in-Some.number c.in-Some.is c.in_ok-number.ensures.noted (ask.Send c.args.object c.args.method c.args.held.first) c.requires.came.0 c.requires.asked c.requires.came.1
+    (view c.settle.new.self.desk).draws (view c.mind.new.self.desk).draws (ap (λ (x : Desk Parcel). (view x).draws) c.settle.ensures.same.0 ∙ c.send_letter.ensures.sent.draws) (λ b top. inl c.mind.ensures.drew)
+
+pub returns-then-comes_to_end-clause-says : goal.returns-then-comes_to_end-clause-says
+returns-then-comes_to_end-clause-says g c =
+    step_says c.args.space.now (view c.args.self.now.desk) (view c.draw_own.new.desk) c.args.asked.now c.args.task c.draw_own.new.task _ c.in-Some.number c.in-Some.is c.in_ok-number.ensures.noted (ask.Send c.args.object c.args.method c.args.held.first) c.requires.came.0 c.requires.asked c.requires.came.1
+    (view c.send_letter.new.desk).draws (view c.end_and_mind.new.self.desk).draws c.send_letter.ensures.sent.draws (λ b top. c.end_and_mind.ensures.drew b (top refl))
+
+pub returns-in-None-clause-says : goal.returns-in-None-clause-says
+returns-in-None-clause-says g c =
+    nothing_first (Sent c.args.object c.args.method c.args.held.first) (view c.args.self.now.desk).draws (view c.lay_down.new.self.desk).draws
+    (none_drew (view c.args.self.now.desk) (view c.draw_own.new.desk) _ c.in-None.is c.in_ok-number.ensures.told (view c.lay_down.new.self.desk).draws (ap (λ (x : Desk Parcel). (view x).draws) c.lay_down.ensures.same.0))

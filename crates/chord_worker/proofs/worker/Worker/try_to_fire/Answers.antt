@@ -1,10 +1,10 @@
-use Rattle.std.proofs.Common.{◌≡◌, true, refl, sym, ap, ◌∙◌, subst, inl, inr, Vec, Global}
+use Rattle.std.proofs.Common.{◌≡◌, true, refl, sym, ap, ◌∙◌, subst, inl, inr, ⊎_elim, Vec, Global}
 use Rattle.chord_base.specs.declared.event.Entry.{Entry}
 use Rattle.chord_match.specs.declared.claiming.Missed.TheVariants as a_miss
 use Rattle.chord_match.specs.Fires.{IsMissedBy}
 use Rattle.chord_rule.specs.declared.view.View.{View}
 use Rattle.chord_space.specs.declared.space.Desk.{Desk}
-use Rattle.chord_space.specs.Desks.{view, IsSameDesk}
+use Rattle.chord_space.specs.Desks.{view, program_of, IsSameDesk}
 use Rattle.chord_task.specs.declared.parcel.Opened.{Opened as Parcel}
 use Rattle.chord_task.proofs.Gathering.{none_gathered}
 use Rattle.chord_worker.proofs.Attending.{found_fired, still_minds, refused, lost_looks}
@@ -81,7 +81,11 @@ returns-in-Err-Spent-clause-drew g c =
 
 pub returns-in-Ok-clause-stock : goal.returns-in-Ok-clause-stock
 returns-in-Ok-clause-stock g c = λ _.
-    inr (subst (DrewFiringLast (view c.args.self.now.desk).draws) (sym c.begin_fired.ensures.undrawn) (fired_last _ _ _ _ _ _ _ _ _ _ c.in-Ok.ensures.fired.2))
+    let f = c.in-Ok.ensures.fired in
+    ⊎_elim
+    (λ same. inl same)
+    (λ none. inr (subst (DrewFiringLast (program_of c.args.space.now) (view c.args.self.now.desk).draws) (sym c.begin_fired.ensures.undrawn) (fired_last _ _ _ _ _ _ _ _ _ _ f.2 none)))
+    (c.begin_fired.ensures.kept (view c.args.self.now.desk) f.0 f.1 (found_fired _ _ _ _ _ c.requires.minds _ _ _ _ c.requires.found.1 _ c.fire_to.ensures.desk _ _ f.2))
 
 pub returns-in-Err-Lost-clause-stock : goal.returns-in-Err-Lost-clause-stock
 returns-in-Err-Lost-clause-stock g c = λ _. inl refl
