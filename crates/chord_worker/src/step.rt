@@ -93,7 +93,7 @@ impl Worker {
     }
 
     /// An ask that is no message becomes an entry. What is in stock stays; something comes there with an end alone, and with that of the last body
-    /// of the task something is there.
+    /// of the task something is there, unless the limit is reached.
     pub(crate) fn play_own(
         &mut self,
         alloc: Global,
@@ -147,7 +147,7 @@ impl Worker {
 
 impl Worker {
     /// An ask becomes an entry, with what follows from it. What owns memory is taken out of it. The stock is seen to where a message is played, and
-    /// nowhere else: so it is empty when the body of an asynchronous firing ends, and the memory of its task serves for the next one.
+    /// nowhere else: so it may be empty when the body of an asynchronous firing ends, and then the memory of its task serves for the next one.
     fn play<R: Wait, G: Gate>(
         &mut self,
         rt: &R,
