@@ -172,6 +172,7 @@ impl Worker {
         ensures went { OnOk result (HasGoneOn (view self.old.desk).kept task self.new) }
         ensures plays { OnOk result (PlaysNext G.knows (view self.old.desk).kept task self.new) }
         ensures stock { OnOk result (HasStockAfter (program_of space.now) (view self.old.desk).draws self.old.spare self.new) }
+        ensures stocked { OnOk result ((e : AnEnd) → asked.old ≡ Some (Ask.End e) → vec_len task.below ≡ 0 → (self.new.spare ≢ None) ⊎ (self.new.spent ≡ true)) }
         ensures bare { OnOk result (OwnsNothing asked.new) }
         ensures drew { DrewAStep task (view self.old.desk).draws (view self.new.desk).draws }
         ensures short { OnErr result (IsOutOfMemory space.now self.new) }

@@ -1,7 +1,9 @@
-use Rattle.std.proofs.Common.{List, Some, refl, sym, ap, ◌∙◌, subst}
+use Rattle.std.proofs.Common.{◌≡◌, true, false, List, Some, refl, sym, ap, ◌∙◌, subst}
+use Rattle.chord_base.specs.declared.event.End.{End}
 use Rattle.chord_base.specs.declared.event.What.TheVariants.{Sent, Called}
 use Rattle.chord_base.specs.declared.value.Value.{Value}
 use Rattle.chord_base.specs.Messages.{message_of}
+use Rattle.chord_base.specs.Printed.{is_end}
 use Rattle.chord_space.specs.Desks.{view, space_code, space_limits, program_of}
 use Rattle.chord_task.specs.declared.task.Task.{Task}
 use Rattle.chord_task.specs.Turning.{HasCome}
@@ -62,3 +64,25 @@ pub returns-in_ok-play_own-in-End-clause-stock : goal.returns-in_ok-play_own-in-
 returns-in_ok-play_own-in-End-clause-stock g c =
     own_stocked (program_of c.args.space.now) (view c.args.self.now.desk).draws c.args.self.now.spare c.play_own-in-End.new.self (what_of_ask c.in-Some.ask) (c.in_ok-play_own-in-End.ensures.says c.in-Some.ask refl)
     c.in_ok-play_own-in-End.ensures.stays (c.in_ok-play_own-in-End.ensures.unmade c.in-Some.ask refl) (ap (λ (a : Ask). message_of (what_of_ask a)) c.in-End.is)
+
+-- what is no end is not this one
+no_end : (a : Ask) → is_end (what_of_ask a) ≡ false → (e : End) → Some a ≡ Some (ask.End e) → ⊥
+no_end a plain e is =
+    let same : a ≡ ask.End e = cc in
+    let z : true ≡ false = sym (ap (λ (b : Ask). is_end (what_of_ask b)) same) ∙ plain in
+    absurd (cc)
+
+pub returns-in_ok-play_sent-in-Send-clause-stocked : goal.returns-in_ok-play_sent-in-Send-clause-stocked
+returns-in_ok-play_sent-in-Send-clause-stocked g c = λ e asked alone. absurd (no_end c.in-Some.ask (ap (λ (a : Ask). is_end (what_of_ask a)) c.in-Send.is) e (sym c.in-Some.is ∙ asked))
+
+pub returns-in_ok-play_called-in-Call-clause-stocked : goal.returns-in_ok-play_called-in-Call-clause-stocked
+returns-in_ok-play_called-in-Call-clause-stocked g c = λ e asked alone. absurd (no_end c.in-Some.ask (ap (λ (a : Ask). is_end (what_of_ask a)) c.in-Call.is) e (sym c.in-Some.is ∙ asked))
+
+pub returns-in_ok-play_own-in-Make-clause-stocked : goal.returns-in_ok-play_own-in-Make-clause-stocked
+returns-in_ok-play_own-in-Make-clause-stocked g c = λ e asked alone. absurd (no_end c.in-Some.ask (ap (λ (a : Ask). is_end (what_of_ask a)) c.in-Make.is) e (sym c.in-Some.is ∙ asked))
+
+pub returns-in_ok-play_own-in-Print-clause-stocked : goal.returns-in_ok-play_own-in-Print-clause-stocked
+returns-in_ok-play_own-in-Print-clause-stocked g c = λ e asked alone. absurd (no_end c.in-Some.ask (ap (λ (a : Ask). is_end (what_of_ask a)) c.in-Print.is) e (sym c.in-Some.is ∙ asked))
+
+pub returns-in_ok-play_own-in-End-clause-stocked : goal.returns-in_ok-play_own-in-End-clause-stocked
+returns-in_ok-play_own-in-End-clause-stocked g c = λ e asked alone. c.in_ok-play_own-in-End.ensures.stocked e (sym c.in-Some.is ∙ asked) alone
