@@ -1,12 +1,14 @@
 -- What holds of each source, of its join machine and the runs of it, and of the tokens that a program spells.
-use Rattle.std.specs.Prelude.{◌≡◌, ℕ, ◌⊎◌, List, Option, Some, map}
+use Rattle.std.specs.Prelude.{◌≡◌, ℕ, ◌⊎◌, List, Option, Some, map, reverse}
 use Rattle.chord_base.specs.Machine.{IsRun}
 use Rattle.chord_base.specs.Meaning.{Program, Start}
-use Rattle.chord_base.specs.Types.{Signatures}
+use Rattle.chord_base.specs.Story.{IsIn}
 use Rattle.chord_base.specs.declared.event.End.{End}
 use Rattle.chord_base.specs.declared.event.Entry.{Entry}
 use Rattle.chord_base.specs.declared.event.Limits.{Limits}
 use Rattle.chord_base.specs.declared.static_type.StaticType.{StaticType}
+use Rattle.chord_classes.specs.Plan.{resolved_program}
+use Rattle.chord_classes.specs.Types.{signatures_of}
 use Rattle.chord_lexer.specs.declared.token.Token.{Token}
 use Rattle.chord_parser.specs.Answers.{IsAnswer, IsNotTall}
 use Rattle.chord_parser.specs.declared.parser.ParseFault.{ParseFault}
@@ -16,7 +18,7 @@ use Rattle.chord_run.specs.BodyEnds.{AnswersEachAsk, BodyBegins, ComesToEnd}
 use Rattle.chord_run.specs.Command.{Requests}
 use Rattle.chord_run.specs.Due.{source_contents}
 use Rattle.chord_run.specs.Refusals.{IsCause, IsLine}
-use Rattle.chord_run.specs.Sources.{AreSignaturesOf, IsAccepted, IsMachine, IsProgramOf}
+use Rattle.chord_run.specs.Sources.{IsAccepted, IsMachine, IsProgramOf}
 use Rattle.chord_run.specs.Written.{IsGiven}
 use Rattle.chord_run.specs.declared.command.Request.{Request}
 use Rattle.chord_run.specs.declared.refusal.Refusal.{Refusal}
@@ -25,7 +27,7 @@ use Rattle.chord_run.specs.declared.report.Report.{Report}
 use Rattle.chord_source.specs.Callers.{ServesCallers}
 use Rattle.chord_source.specs.Laws.{IsSoundMachine}
 use Rattle.chord_source.specs.Traps.{KeepsTraps}
-use Rattle.chord_source.specs.TypedRuns.{KeepsTypes}
+use Rattle.chord_source.specs.TypedRuns.{IsResultType, KeepsTypes, PlaysWell, begins_as}
 use Rattle.chord_tree.specs.Program.{IsProgram, spelling, token_kinds, without_span}
 use Rattle.chord_tree.specs.Tree.{ProgramTree}
 
@@ -84,13 +86,22 @@ MachineKeepsTraps = (source : List ℕ) (limits : Limits) (program : Program) (j
 -- each run of a join machine of a source keeps to the types that the source's classes declare
 abbrev pub MachineKeepsTypes : Type 0
 MachineKeepsTypes =
-    (source : List ℕ) (limits : Limits) (program : Program) (sig : Signatures) (journal : List Entry) → IsMachine source limits program → AreSignaturesOf source sig → IsRun program journal → KeepsTypes program sig journal
+    (source : List ℕ) (limits : Limits) (program : Program) (tree : ProgramTree) (journal : List Entry) → IsMachine source limits program → IsProgramOf source tree → IsRun program journal →
+    KeepsTypes (resolved_program tree) program (signatures_of tree) journal
 
--- each body of a join machine of a source comes to its end after finitely many asks, whatever fits they are answered
+-- each body of such a run plays well, with the result type that it has there
+abbrev pub MachinePlaysWell : Type 0
+MachinePlaysWell =
+    (source : List ℕ) (limits : Limits) (program : Program) (tree : ProgramTree) (journal : List Entry) (entry : Entry) (start : Start) →
+    IsMachine source limits program → IsProgramOf source tree → IsRun program journal → IsIn entry journal → begins_as entry.what ≡ Some start →
+    (result : Option StaticType) × IsResultType program (signatures_of tree) (reverse journal) entry.body result × ((depth : ℕ) → PlaysWell (signatures_of tree) (resolved_program tree) limits start depth result)
+
+-- each body of a join machine of a source, begun on values of the types that the source's classes declare, comes to its end after finitely many asks, whatever fits they are answered
 abbrev pub MachineEndsBodies : Type 0
 MachineEndsBodies =
-    (source : List ℕ) (limits : Limits) (program : Program) (sig : Signatures) (start : Start) (depth : ℕ) (result : Option StaticType) (supply : ℕ → End) →
-    IsMachine source limits program → AreSignaturesOf source sig → BodyBegins program sig start result → AnswersEachAsk program sig start depth supply → ComesToEnd program sig start depth result supply
+    (source : List ℕ) (limits : Limits) (program : Program) (tree : ProgramTree) (start : Start) (depth : ℕ) (result : Option StaticType) (supply : ℕ → End) →
+    IsMachine source limits program → IsProgramOf source tree → BodyBegins program (signatures_of tree) start result → AnswersEachAsk program (signatures_of tree) start depth supply →
+    ComesToEnd program (signatures_of tree) start depth result supply
 
 -- a journal is a run of a join machine of the source that these arguments are about, takes no message twice, serves its callers, keeps traps to them, and keeps to the types that the source's classes declare
 pub record IsReportedRun (arguments : List (List ℕ)) (left : Option (List ℕ)) (journal : List Entry) : Type 0 where
@@ -103,9 +114,9 @@ pub record IsReportedRun (arguments : List (List ℕ)) (left : Option (List ℕ)
   pub run : IsRun program journal
   pub serves : ServesCallers program journal
   pub traps : KeepsTraps program journal
-  pub sig : Signatures
-  pub declared : AreSignaturesOf source sig
-  pub types : KeepsTypes program sig journal
+  pub tree : ProgramTree
+  pub of_source : IsProgramOf source tree
+  pub types : KeepsTypes (resolved_program tree) program (signatures_of tree) journal
 
 -- where the headline holds, the journal of the report is such a run
 abbrev pub ReportIsRun : Type 0

@@ -1,11 +1,9 @@
--- Which sources are accepted, which signatures their classes declare, and what the join machine of each is.
+-- Which sources are accepted, and what the join machine of each is.
 use Rattle.std.specs.Prelude.{◌≡◌, ℕ, ◌≤◌, List, length}
 use Rattle.chord_base.specs.Meaning.{Program}
-use Rattle.chord_base.specs.Types.{Signatures}
 use Rattle.chord_base.specs.declared.event.Limits.{Limits}
 use Rattle.chord_classes.specs.Breaks.{KeepsEveryRule}
 use Rattle.chord_classes.specs.Plan.{resolved_program}
-use Rattle.chord_classes.specs.Types.{signatures_of}
 use Rattle.chord_lexer.specs.Reading.{IsRead}
 use Rattle.chord_lexer.specs.declared.token.Token.{Token}
 use Rattle.chord_parser.specs.Answers.{IsNotTall}
@@ -25,10 +23,6 @@ pub record IsProgramOf (source : List ℕ) (program : ProgramTree) : Type 0 wher
   pub is_program : IsProgram program
   pub not_tall : IsNotTall program
   pub spelled : spelling program ≡ token_kinds tokens
-
--- the signatures of a source: those that the classes of its program declare
-abbrev pub AreSignaturesOf : List ℕ → Signatures → Type 0
-AreSignaturesOf source sig = (program : ProgramTree) × IsProgramOf source program × (sig ≡ signatures_of program)
 
 -- a source is accepted as this program: that is its program, and breaks no rule
 pub record IsAcceptedAs (source : List ℕ) (program : ProgramTree) : Type 0 where

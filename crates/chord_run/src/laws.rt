@@ -3,11 +3,11 @@
 #![tactic(auto)]
 
 ghost use Rattle.chord_run.specs.Examples.{HasExamples, HasRefusedExamples};
-ghost use Rattle.chord_run.specs.Laws.{AcceptedHasMachine, CauseHasLine, HasOneCause, HasOneLine, HasOneMachine, HasOneProgram, IsAcceptedOrHasCause, IsRefusedByRule, MachineEndsBodies, MachineIsOfAccepted, MachineIsSound, MachineKeepsTraps, MachineKeepsTypes, MachineServesCallers, RefusedIsNotAccepted, ReportIsRun, SpellingIsReadAgain};
+ghost use Rattle.chord_run.specs.Laws.{AcceptedHasMachine, CauseHasLine, HasOneCause, HasOneLine, HasOneMachine, HasOneProgram, IsAcceptedOrHasCause, IsRefusedByRule, MachineEndsBodies, MachineIsOfAccepted, MachineIsSound, MachineKeepsTraps, MachineKeepsTypes, MachinePlaysWell, MachineServesCallers, RefusedIsNotAccepted, ReportIsRun, SpellingIsReadAgain};
 
 use chord_classes::laws::{breaks, plan, types};
 use chord_rules::laws::splits;
-use chord_source::laws::{callers, ends, sound, traps, typed};
+use chord_source::laws::{bodies, callers, ends, sound, traps, typed};
 
 /// A source has at most one program. It is accepted exactly where it has a join machine, and within its limits it has one at
 /// most. It is accepted or has a cause of a refusal, and not both. It has at most one cause, which has one line; where it has a
@@ -41,13 +41,15 @@ pub fn sources()
 ///
 /// Each run keeps to the types that the source's classes declare. What is sent names an asynchronous method of its object's class,
 /// and what is called a synchronous one, with a value of its type for each parameter. A value that a body gives has the result type
-/// of the method whose call it serves; where that method has none, and where it serves no call, it is the unit value.
+/// of the method whose call it serves; where that method has none, and where it serves no call, it is the unit value. Each body
+/// begins as it may, so that it never goes wrong, at any depth, and comes to an end of that type.
 pub fn machines()
     ensures sound { MachineIsSound }
     ensures ends { MachineEndsBodies }
     ensures runs { MachineServesCallers }
     ensures traps { MachineKeepsTraps }
     ensures types { MachineKeepsTypes }
+    ensures bodies { MachinePlaysWell }
     ensures reports { ReportIsRun }
 {
     // the bodies of a program that breaks no rule keep to the types that its classes declare
@@ -60,6 +62,8 @@ pub fn machines()
     ends();
     // its runs keep to types
     typed();
+    // so that no body of a run goes wrong
+    bodies();
     // and the runs of a sound machine serve their callers
     callers();
     // the machine of a source hands traps on, and the runs of such a machine keep them to their callers
