@@ -26,7 +26,7 @@ use Rattle.chord_task.specs.Standing.{body_number, body_waits, HasRoomIf, view_o
 use Rattle.chord_task.proofs.Asking.{waits_yes}
 use Rattle.chord_lists.specs.Engine.{IsRunOfLength, fired}
 use Rattle.chord_lists.specs.declared.code_bodies.CodeBodies.{CodeBodies}
-use Rattle.chord_lists.specs.CodeStands.{past_of, views, home, ready_in, ready_at, over_in, over_at, AreReady, is_on_top, topped_by, AreOver, Awaits, AreMessagesAt, sent_values, HostsCall, FitsAt, Serves, StandsWith, StandsAfter}
+use Rattle.chord_lists.specs.CodeStands.{past_of, views, home_in, home, ready_in, ready_at, over_in, over_at, AreReady, is_on_top, topped_by, AreOver, Awaits, AreMessagesAt, sent_values, HostsCall, FitsAt, Serves, StandsWith, StandsAfter}
 use Rattle.chord_lists.proofs.Spots.{end_at, before_end, past_end, one_some, nothing_some, has_first, has_later}
 use Rattle.chord_lists.proofs.CodeTasks.{one_call, resumable}
 use Rattle.chord_lists.proofs.CodeSteps.{stands_merged, task_below, OneMore, more_home, keeps_more, journal_more, views_set, tasks_set, awaits_set, pending_under}
@@ -217,6 +217,13 @@ pub topped_first : (at : ℕ) (list : List ℕ) → take 1 (topped_by at list) �
 topped_first at [] = refl
 topped_first at (i ∷ list) = elim (either (i == at)) [ inl y ↦ rw y (ap (λ z. z ∷ []) (eqb-true i at y)) | inr o ↦ rw o refl ]
 
+-- the place that was put on top is that of the newest entry's task
+pub topped_home : (homes homes' ready ready' : List ℕ) (at n : ℕ) → length homes ≡ n → ready' ≡ topped_by at ready → homes' ≡ homes ++ take 1 ready' → ready' ≡ topped_by (home homes' n) ready
+topped_home homes homes' ready ready' at n long top is =
+    let here : homes' ≡ homes ++ at ∷ [] = is ∙ ap (λ z. homes ++ z) (ap (λ (z : List ℕ). take 1 z) top ∙ topped_first at ready) in
+    let place : home homes' n ≡ at = ap (λ z. home z n) here ∙ ap home_in (subst (λ k. slice_get (homes ++ at ∷ []) k ≡ Some at) long (end_at homes at)) in
+    subst (λ z. ready' ≡ topped_by z ready) (sym place) top
+
 -- a task that begins a body is put on top of the list of the ready ones
 ready_topped : (tasks : List Task) (at : ℕ) (t : Task) (ready : List ℕ) → AreReady tasks ready → AreReady (set tasks at t) (topped_by at ready)
 unfolding ready_at
@@ -266,21 +273,21 @@ tasks_more code limits tasks t k f i x e =
       | inr o ↦ f i x (sym (before_end tasks t i (eqb-false (length tasks) i o)) ∙ e)
     ]
 
--- one more task is put on the list of the ready ones
-ready_new : (tasks : List Task) (t : Task) (ready : List ℕ) → AreReady tasks ready → AreReady (tasks ++ t ∷ []) (length tasks ∷ ready)
+-- one more task is put on top of the list of the ready ones
+ready_new : (tasks : List Task) (t : Task) (ready : List ℕ) → AreReady tasks ready → AreReady (tasks ++ t ∷ []) (topped_by (length tasks) ready)
 unfolding ready_at
 ready_new tasks t ready a =
     record {
       all =
           λ j e.
           elim (either (length tasks == j)) [
-            | inl y ↦ subst (λ z. has z (length tasks ∷ ready) ≡ true) (eqb-true (length tasks) j y) (has_first (length tasks) ready)
-            | inr o ↦ has_later j (length tasks) ready (a.all j (sym (ap ready_in (before_end tasks t j (eqb-false (length tasks) j o))) ∙ e))
+            | inl y ↦ subst (λ z. has z (topped_by (length tasks) ready) ≡ true) (eqb-true (length tasks) j y) (topped_has (length tasks) ready)
+            | inr o ↦ topped_keeps (length tasks) j ready (a.all j (sym (ap ready_in (before_end tasks t j (eqb-false (length tasks) j o))) ∙ e))
           ];
     }
 
 -- the new body has a task of its own
-pub fired_alone : (code : Parts) (limits : Limits) (before after : CodeBodies) (h : List Entry) (n k : ℕ) (o : Object) (ms : List ℕ) (vs : List Value) (t : Task) → IsRunOfLength (code_program code limits) n h → StandsAfter code limits before h → Fires (code_program code limits) h k o ms vs → IsTaskOf code limits t → (view_of t).past ≡ fired n k o ms vs ∷ [] → (view_of t).top ≡ Some n → after.entries.items ≡ before.entries.items ++ fired n k o ms vs ∷ [] → after.tasks.items ≡ before.tasks.items ++ t ∷ [] → reverse after.ready.items ≡ length before.tasks.items ∷ reverse before.ready.items → after.over.items ≡ before.over.items → after.homes.items ≡ before.homes.items ++ length before.tasks.items ∷ [] → StandsAfter code limits after (fired n k o ms vs ∷ h)
+pub fired_alone : (code : Parts) (limits : Limits) (before after : CodeBodies) (h : List Entry) (n k : ℕ) (o : Object) (ms : List ℕ) (vs : List Value) (t : Task) → IsRunOfLength (code_program code limits) n h → StandsAfter code limits before h → Fires (code_program code limits) h k o ms vs → IsTaskOf code limits t → (view_of t).past ≡ fired n k o ms vs ∷ [] → (view_of t).top ≡ Some n → after.entries.items ≡ before.entries.items ++ fired n k o ms vs ∷ [] → after.tasks.items ≡ before.tasks.items ++ t ∷ [] → reverse after.ready.items ≡ topped_by (length before.tasks.items) (reverse before.ready.items) → after.over.items ≡ before.over.items → after.homes.items ≡ before.homes.items ++ length before.tasks.items ∷ [] → StandsAfter code limits after (fired n k o ms vs ∷ h)
 fired_alone code limits before after h n k o ms vs t played s f task past top listed tasks ready over homes =
     let xs = before.tasks.items in
     stands_fired code limits before after h n k (length xs) o ms vs played s f listed homes

@@ -7,7 +7,6 @@ pub mod PendingEntries
 pub mod CodeTasks
 pub mod Spots
 pub mod OverTasks
-pub mod Gaining
 pub mod Lacking
 pub mod CodeChords
 pub mod CodeSteps

@@ -1,13 +1,14 @@
 -- The list of tasks that are over, as tasks go on and bodies begin.
-use Rattle.std.proofs.Common.{◌≡◌, ℕ, true, false, ◌==◌, List, [], ◌∷◌, ◌++◌, length, Some, sym, ap, ◌∙◌, subst, inl, inr, set, if◌then◌else◌}
+use Rattle.std.proofs.Common.{◌≡◌, ℕ, true, false, Bool, ◌==◌, List, [], ◌∷◌, ◌++◌, length, Some, sym, ap, ◌∙◌, subst, inl, inr, set, if◌then◌else◌}
 use Rattle.std.specs.Prelude.{slice_get, is_none}
 use Rattle.std.proofs.lemmas.Bool.{eqb-true, eqb-false}
+use Rattle.std.proofs.lemmas.List.{append-nil, append_assoc}
 use Rattle.chord_base.specs.Messages.{has}
 use Rattle.chord_base.proofs.Waits.{either}
 use Rattle.chord_code.proofs.Places.{set_same, set_other}
 use Rattle.chord_task.specs.declared.task.Task.{Task}
 use Rattle.chord_task.specs.Standing.{view_of}
-use Rattle.chord_lists.specs.CodeStands.{over_in, over_at, AreOver}
+use Rattle.chord_lists.specs.CodeStands.{IsCut, over_in, over_at, with_over, AreOver}
 use Rattle.chord_lists.proofs.Spots.{end_at, before_end, has_first, has_later, has_other}
 
 -- where no task is over each list will do
@@ -85,3 +86,21 @@ over_more tasks t b over top a =
 pub first_over : (t : Task) (b : ℕ) (over : List ℕ) → (view_of t).top ≡ Some b → AreOver (t ∷ []) over
 unfolding over_at
 first_over t b over top = over_more [] t b over top (record { all = λ j e. let z : false ≡ true = e in cc })
+
+-- the task that went on is over if it has no body left
+pub over_went : (tasks : List Task) (i : ℕ) (t u : Task) (over : List ℕ) → slice_get tasks i ≡ Some u → with_over (set tasks i t) i over ≡ (if is_none (view_of t).top then i ∷ over else over)
+unfolding over_at
+over_went tasks i t u over s = ap (λ (b : Bool). if b then i ∷ over else over) (ap over_in (set_same tasks i t u s))
+
+-- no place went
+pub none_went : (old new : List ℕ) → new ≡ old → IsCut old new
+none_went old new e = record { gone = []; is = sym e ∙ sym (append-nil new) }
+
+-- one place more went
+pub last_went : (i : ℕ) (old left new : List ℕ) → new ≡ left → IsCut old (left ++ i ∷ []) → IsCut old new
+last_went i old left new e c =
+    record { gone = i ∷ c.gone; is = c.is ∙ append_assoc left (i ∷ []) c.gone ∙ ap (λ z. z ++ i ∷ c.gone) (sym e) }
+
+-- all places went
+pub all_went : (old new : List ℕ) → new ≡ [] → IsCut old new
+all_went old new e = record { gone = old; is = ap (λ z. z ++ old) (sym e) }

@@ -1,5 +1,5 @@
 -- What the bodies of a run of a code are after a history: its entries in order, and tasks, each of which made some of them.
-use Rattle.std.specs.Prelude.{is_none, ◌≡◌, ℕ, ◌+◌, ◌≤◌, ◌⊎◌, ◌==◌, List, [], ◌∷◌, ◌++◌, reverse, length, Bool, true, false, Option, Some, None, slice_get, if◌then◌else◌}
+use Rattle.std.specs.Prelude.{is_none, ◌≡◌, ℕ, ◌+◌, ◌≤◌, ◌⊎◌, ◌==◌, List, [], ◌∷◌, ◌++◌, reverse, length, set, Bool, true, false, Option, Some, None, slice_get, if◌then◌else◌}
 use Rattle.chord_base.specs.declared.event.Entry.{Entry}
 use Rattle.chord_base.specs.declared.event.Limits.{Limits}
 use Rattle.chord_base.specs.declared.event.What.{What}
@@ -15,6 +15,7 @@ use Rattle.chord_code.specs.declared.parts.Parts.{Parts}
 use Rattle.chord_code.specs.Meaning.{code_program}
 use Rattle.chord_task.specs.declared.task.Task.{Task}
 use Rattle.chord_task.specs.Standing.{view_of, IsTaskOf, is_ready_of, waits_of}
+use Rattle.chord_task.specs.Turning.{HasTurned}
 use Rattle.chord_lists.specs.Engine.{IsRunOfLength, Made}
 use Rattle.chord_lists.specs.declared.engine.Turn.{Turn}
 use Rattle.chord_lists.specs.declared.engine.Turn.TheVariants as a_turn
@@ -60,10 +61,6 @@ is_on_top at list = is_place at (slice_get list 0)
 abbrev pub topped_by : ℕ → List ℕ → List ℕ
 topped_by at list = if is_on_top at list then list else at ∷ list
 
--- the place of one of these tasks, or of one more, came on top of the list, if it was not there
-abbrev pub GotTop : List Task → List ℕ → List ℕ → Type 0
-GotTop tasks old new = (at : ℕ) × ((reverse new ≡ topped_by at (reverse old)) ⊎ ((at ≡ length tasks) × (new ≡ old ++ at ∷ [])))
-
 -- ## Tasks that may go on, and tasks that wait
 
 -- whether a task, if there is one, may go on
@@ -103,9 +100,9 @@ abbrev pub with_over : List Task → ℕ → List ℕ → List ℕ
 with_over tasks at over = if over_at tasks at then at ∷ over else over
 
 -- the list after a turn of the task at this place, or as it was where no task had a turn
-abbrev pub over_behind : List Task → Option ℕ → List ℕ → List ℕ
-over_behind tasks None over = over
-over_behind tasks (Some at) over = with_over tasks at over
+abbrev pub over_after : List Task → Option ℕ → List ℕ → List ℕ
+over_after tasks None over = over
+over_after tasks (Some at) over = with_over tasks at over
 
 -- a body begins in a task that stood there, or in one more, where it serves no call and no task was over
 abbrev pub StoodOrAlone : List Task → List Task → Option ℕ → Type 0
@@ -152,6 +149,20 @@ pub record WentAt (p : Program) (tasks : List Task) (at : ℕ) (after : List Ent
   pub own : IsOwn entry.what
   pub top : (t : Task) × (slice_get tasks at ≡ Some t) × ((view_of t).top ≡ Some entry.body)
   pub is : turn ≡ turn_of entry.what
+
+-- the task of this place had a turn, by which its next ask became the entry of this number, and no other task has changed
+pub record HasTurnedAt (code : Parts) (limits : Limits) (old new : List Task) (at n : ℕ) : Type 0 where
+  pub before : Task
+  pub after : Task
+  pub sent : Option (Object × ℕ)
+  pub there : slice_get old at ≡ Some before
+  pub turned : HasTurned code limits before after n sent
+  pub is : new ≡ set old at after
+
+-- the task of this place, if there is one, had a turn, and no other task has changed
+abbrev pub HasTurnedIfAny : Parts → Limits → List Task → List Task → Option ℕ → ℕ → Type 0
+HasTurnedIfAny code limits old new None n = new ≡ old
+HasTurnedIfAny code limits old new (Some at) n = HasTurnedAt code limits old new at n
 
 -- ## What a firing takes
 

@@ -1,7 +1,7 @@
 //! The bodies of a run of a code: tasks, and the entries that these made.
 #![tactic(auto)]
 
-ghost use Rattle.std.specs.Prelude.{◌≡◌, ◌<◌, ◌≤◌, ◌+◌, ℕ, ◌++◌, [], List, reverse, length, take, IfOk, OnOk, IfSome, IfNone, Some, None, true, false, slice_get, ◌∷◌, is_none, if◌then◌else◌};
+ghost use Rattle.std.specs.Prelude.{◌≡◌, ◌≢◌, ◌<◌, ◌≤◌, ◌+◌, ℕ, ◌++◌, [], List, reverse, length, take, IfOk, OnOk, IfSome, IfNone, Some, None, true, false, slice_get, ◌∷◌, is_none, if◌then◌else◌};
 ghost use Rattle.chord_base.specs.Bounds.{IsJournal};
 ghost use Rattle.chord_base.specs.Story.{IsOwn, IsSound};
 ghost use Rattle.chord_base.specs.declared.event.Entry.{Entry};
@@ -9,7 +9,7 @@ ghost use Rattle.chord_base.specs.Bodies.{served_among};
 ghost use Rattle.chord_code.specs.Meaning.{code_program, method_is_sync};
 ghost use Rattle.chord_lists.specs.Engine.{main_begun, IsRunOfLength, MayGoOn, Went, MayBegin, Began};
 ghost use Rattle.chord_task.specs.Standing.{view_of};
-ghost use Rattle.chord_lists.specs.CodeStands.{StandsAfter, StandsWith, IsCut, GotTop, over_behind, AreReady, AreOver, StoodOrAlone, ready_at, over_at, with_over, is_on_top, topped_by, turn_to, WentAt, IsMessageAt, AreMessagesAt, message_at, sent_arguments, sent_values, home, Serves, FitsAt, MayReplay, Replayed};
+ghost use Rattle.chord_lists.specs.CodeStands.{StandsAfter, StandsWith, IsCut, over_after, AreReady, AreOver, StoodOrAlone, ready_at, over_at, with_over, is_on_top, topped_by, turn_to, WentAt, HasTurnedAt, HasTurnedIfAny, IsMessageAt, AreMessagesAt, message_at, sent_arguments, sent_values, home, Serves, FitsAt, MayReplay, Replayed};
 
 use crate::engine::Turn;
 use chord_base::event::{Entry, Limits, What};
@@ -160,6 +160,7 @@ fn make(
     ensures homed { OnOk result (bodies.new.homes.items ≡ bodies.old.homes.items ++ at ∷ []) }
     ensures over { OnOk result (reverse bodies.new.over.items ≡ with_over bodies.new.tasks.items at (reverse bodies.old.over.items)) }
     ensures tasks { OnOk result (length bodies.new.tasks.items ≡ length bodies.old.tasks.items) }
+    ensures turned { OnOk result (HasTurnedAt code.now limits.now bodies.old.tasks.items bodies.new.tasks.items at number) }
 {
     let _parts = code.parts();
     let task = &mut bodies.tasks[at as usize];
@@ -209,8 +210,9 @@ pub fn go_on(
     ensures went { IfOk result (λ turn. Went (code_program code.now limits.now) (StandsAfter code.now limits.now bodies.old) (StandsAfter code.now limits.now bodies.new) number turn) }
     ensures cut { OnOk result (IsCut bodies.old.ready.items bodies.new.ready.items) }
     ensures top { OnOk result (bodies.new.homes.items ≡ bodies.old.homes.items ++ take 1 (reverse bodies.new.ready.items)) }
-    ensures over { OnOk result (reverse bodies.new.over.items ≡ over_behind bodies.new.tasks.items (slice_get (reverse bodies.new.ready.items) 0) (reverse bodies.old.over.items)) }
+    ensures over { OnOk result (reverse bodies.new.over.items ≡ over_after bodies.new.tasks.items (slice_get (reverse bodies.new.ready.items) 0) (reverse bodies.old.over.items)) }
     ensures tasks { OnOk result (length bodies.new.tasks.items ≡ length bodies.old.tasks.items) }
+    ensures turned { OnOk result (HasTurnedIfAny code.now limits.now bodies.old.tasks.items bodies.new.tasks.items (slice_get (reverse bodies.new.ready.items) 0) number) }
 {
     match next_ready(&bodies.tasks, &mut bodies.ready) {
         None => Ok(Turn::Over),
@@ -381,7 +383,7 @@ fn begin_alone(
     requires may { MayBegin (code_program code.now limits.now) (StandsAfter code.now limits.now bodies.old) number chord object members.old }
     requires call { Serves (code_program code.now limits.now) chord object members.old None }
     ensures began { IfOk result (λ _. Began (code_program code.now limits.now) (StandsAfter code.now limits.now bodies.old) (StandsAfter code.now limits.now bodies.new) number chord object members.old) }
-    ensures ready { OnOk result (bodies.new.ready.items ≡ bodies.old.ready.items ++ length bodies.old.tasks.items ∷ []) }
+    ensures ready { OnOk result (reverse bodies.new.ready.items ≡ topped_by (length bodies.old.tasks.items) (reverse bodies.old.ready.items)) }
     ensures top { OnOk result (bodies.new.homes.items ≡ bodies.old.homes.items ++ take 1 (reverse bodies.new.ready.items)) }
     ensures over { OnOk result (bodies.new.over.items ≡ bodies.old.over.items) }
     ensures tasks { OnOk result (length bodies.new.tasks.items ≡ length bodies.old.tasks.items + 1) }
@@ -403,7 +405,7 @@ fn begin_alone(
         &mut bodies.entries,
     )?;
     bodies.tasks.push(task)?;
-    bodies.ready.push(at)?;
+    put_ready(&mut bodies.ready, at)?;
     bodies.homes.push(as_home(at))?;
     Ok(())
 }
@@ -426,8 +428,9 @@ pub fn begin_body(
     requires call { Serves (code_program code.now limits.now) chord object members.old served }
     ensures began { IfOk result (λ _. Began (code_program code.now limits.now) (StandsAfter code.now limits.now bodies.old) (StandsAfter code.now limits.now bodies.new) number chord object members.old) }
     ensures top { OnOk result (bodies.new.homes.items ≡ bodies.old.homes.items ++ take 1 (reverse bodies.new.ready.items)) }
-    ensures ready { OnOk result (GotTop bodies.old.tasks.items bodies.old.ready.items bodies.new.ready.items) }
+    ensures ready { OnOk result (reverse bodies.new.ready.items ≡ topped_by (home bodies.new.homes.items number) (reverse bodies.old.ready.items)) }
     ensures over { OnOk result (IsCut bodies.old.over.items bodies.new.over.items) }
+    ensures kept { OnOk result (served ≢ None → bodies.new.over.items ≡ bodies.old.over.items) }
     ensures reuse { OnOk result (StoodOrAlone bodies.old.tasks.items bodies.new.tasks.items served) }
 {
     match served {
@@ -467,7 +470,10 @@ pub fn repeat(
     requires may { MayReplay (code_program code.now limits.now) (StandsAfter code.now limits.now bodies.old) entry.now }
     ensures replayed { IfOk result (λ _. Replayed (code_program code.now limits.now) (StandsAfter code.now limits.now bodies.old) (StandsAfter code.now limits.now bodies.new) entry.now) }
     ensures ready { OnOk result (bodies.new.ready.items ≡ bodies.old.ready.items) }
+    ensures homed { OnOk result (bodies.new.homes.items ≡ bodies.old.homes.items ++ home bodies.old.homes.items entry.now.body ∷ []) }
+    ensures over { OnOk result (reverse bodies.new.over.items ≡ with_over bodies.new.tasks.items (home bodies.old.homes.items entry.now.body) (reverse bodies.old.over.items)) }
     ensures tasks { OnOk result (length bodies.new.tasks.items ≡ length bodies.old.tasks.items) }
+    ensures turned { OnOk result (HasTurnedAt code.now limits.now bodies.old.tasks.items bodies.new.tasks.items (home bodies.old.homes.items entry.now.body) entry.now.number) }
 {
     let at = home_of(&bodies.homes, entry.body);
     let _ = make(alloc, code, limits, bodies, at, entry.number)?;

@@ -23,9 +23,10 @@ pub struct CodePlay<'a> {
 }
 
 impl<'a> CodePlay<'a> {
-    ghost use Rattle.std.specs.Prelude.{◌≡◌, ◌<◌, length, slice_get, Some, IfOk};
+    ghost use Rattle.std.specs.Prelude.{◌≡◌, ◌<◌, ◌++◌, ◌∷◌, [], length, reverse, slice_get, Some, IfOk, OnOk};
+    ghost use Rattle.chord_base.specs.Story.{IsOwn};
     ghost use Rattle.chord_code.specs.Meaning.{code_program};
-    ghost use Rattle.chord_lists.specs.CodeStands.{StandsAfter, MayReplay, Replayed};
+    ghost use Rattle.chord_lists.specs.CodeStands.{StandsAfter, MayReplay, Replayed, HasTurnedAt, home, with_over};
 
     /// The methods of a chord of the class, in header order.
     fn methods(&self, class: u16, chord: u16) -> &[u8]
@@ -45,7 +46,12 @@ impl<'a> CodePlay<'a> {
         requires later { 0 < entry.now.number }
         requires room { entry.now.number < 65536 }
         requires may { MayReplay (code_program self.now.code.now self.now.limits.now) (StandsAfter self.now.code.now self.now.limits.now bodies.old) entry.now }
-        ensures { IfOk result (λ _. Replayed (code_program self.now.code.now self.now.limits.now) (StandsAfter self.now.code.now self.now.limits.now bodies.old) (StandsAfter self.now.code.now self.now.limits.now bodies.new) entry.now) }
+        ensures replayed { IfOk result (λ _. Replayed (code_program self.now.code.now self.now.limits.now) (StandsAfter self.now.code.now self.now.limits.now bodies.old) (StandsAfter self.now.code.now self.now.limits.now bodies.new) entry.now) }
+        ensures ready { OnOk result (IsOwn entry.now.what → bodies.new.ready.items ≡ bodies.old.ready.items) }
+        ensures homed { OnOk result (IsOwn entry.now.what → bodies.new.homes.items ≡ bodies.old.homes.items ++ home bodies.old.homes.items entry.now.body ∷ []) }
+        ensures over { OnOk result (IsOwn entry.now.what → reverse bodies.new.over.items ≡ with_over bodies.new.tasks.items (home bodies.old.homes.items entry.now.body) (reverse bodies.old.over.items)) }
+        ensures turned { OnOk result (IsOwn entry.now.what → HasTurnedAt self.now.code.now self.now.limits.now bodies.old.tasks.items bodies.new.tasks.items (home bodies.old.homes.items entry.now.body) entry.now.number) }
+        ensures tasks { OnOk result (IsOwn entry.now.what → length bodies.new.tasks.items ≡ length bodies.old.tasks.items) }
     {
         match &entry.what {
             What::Begun => unreachable!(),
@@ -72,10 +78,10 @@ impl<'a> CodePlay<'a> {
 }
 
 impl<'a> Playable for CodePlay<'a> {
-    ghost use Rattle.std.specs.Prelude.{◌≡◌, ◌<◌, ◌++◌, length, reverse, slice_get, take, Some, IfOk, OnOk};
+    ghost use Rattle.std.specs.Prelude.{◌≡◌, ◌≢◌, ◌<◌, ◌++◌, length, reverse, slice_get, take, Some, None, IfOk, OnOk};
     ghost use Rattle.chord_base.specs.Bodies.{served_among};
     ghost use Rattle.chord_code.specs.Meaning.{code_program, method_is_sync};
-    ghost use Rattle.chord_lists.specs.CodeStands.{StandsAfter, StoodOrAlone, IsCut, GotTop, over_behind};
+    ghost use Rattle.chord_lists.specs.CodeStands.{StandsAfter, StoodOrAlone, HasTurnedIfAny, IsCut, home, over_after, topped_by};
     ghost use Rattle.chord_lists.specs.Engine.{MayGoOn, Went, MayBegin, Began};
 
     type Bodies = CodeBodies;
@@ -96,8 +102,9 @@ impl<'a> Playable for CodePlay<'a> {
         ensures went { IfOk result (λ turn. Went (code_program self.now.code.now self.now.limits.now) (StandsAfter self.now.code.now self.now.limits.now bodies.old) (StandsAfter self.now.code.now self.now.limits.now bodies.new) number turn) }
         ensures cut { OnOk result (IsCut bodies.old.ready.items bodies.new.ready.items) }
         ensures top { OnOk result (bodies.new.homes.items ≡ bodies.old.homes.items ++ take 1 (reverse bodies.new.ready.items)) }
-        ensures over { OnOk result (reverse bodies.new.over.items ≡ over_behind bodies.new.tasks.items (slice_get (reverse bodies.new.ready.items) 0) (reverse bodies.old.over.items)) }
+        ensures over { OnOk result (reverse bodies.new.over.items ≡ over_after bodies.new.tasks.items (slice_get (reverse bodies.new.ready.items) 0) (reverse bodies.old.over.items)) }
         ensures tasks { OnOk result (length bodies.new.tasks.items ≡ length bodies.old.tasks.items) }
+        ensures turned { OnOk result (HasTurnedIfAny self.now.code.now self.now.limits.now bodies.old.tasks.items bodies.new.tasks.items (slice_get (reverse bodies.new.ready.items) 0) number) }
     {
         let turn = go_on(alloc, self.code, self.limits, bodies, number)?;
         Ok(turn)
@@ -118,8 +125,9 @@ impl<'a> Playable for CodePlay<'a> {
         requires may { MayBegin (code_program self.now.code.now self.now.limits.now) (StandsAfter self.now.code.now self.now.limits.now bodies.old) number chord object members.old }
         ensures began { IfOk result (λ _. Began (code_program self.now.code.now self.now.limits.now) (StandsAfter self.now.code.now self.now.limits.now bodies.old) (StandsAfter self.now.code.now self.now.limits.now bodies.new) number chord object members.old) }
         ensures top { OnOk result (bodies.new.homes.items ≡ bodies.old.homes.items ++ take 1 (reverse bodies.new.ready.items)) }
-        ensures ready { OnOk result (GotTop bodies.old.tasks.items bodies.old.ready.items bodies.new.ready.items) }
+        ensures ready { OnOk result (reverse bodies.new.ready.items ≡ topped_by (home bodies.new.homes.items number) (reverse bodies.old.ready.items)) }
         ensures over { OnOk result (IsCut bodies.old.over.items bodies.new.over.items) }
+        ensures kept { OnOk result (served_among (method_is_sync self.now.code.now object.class) methods.now members.old ≢ None → bodies.new.over.items ≡ bodies.old.over.items) }
         ensures reuse { OnOk result (StoodOrAlone bodies.old.tasks.items bodies.new.tasks.items (served_among (method_is_sync self.now.code.now object.class) methods.now members.old)) }
     {
         let served = served_by(self.code, object.class, methods, members.items());

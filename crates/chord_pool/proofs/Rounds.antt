@@ -24,11 +24,11 @@ counts_on c d e a b = record { same = b.same ∙ a.same; throughout = b.througho
 
 -- nothing happens between two rounds, twice
 between_on : (x y z : Player) → IsBetweenRounds x y → IsBetweenRounds y z → IsBetweenRounds x z
-between_on x y z a b = record { worker = b.worker ∙ a.worker; stands = stands_on x y z a.stands b.stands; counted = counts_on x.card y.card z.card a.counted b.counted }
+between_on x y z a b = record { worker = b.worker ∙ a.worker; stands = stands_on x y z a.stands b.stands; counted = counts_on x.card y.card z.card a.counted b.counted; asks = b.asks ∙ a.asks }
 
 -- nothing happens to a player that stays as it is
 pub between_none : (x : Player) → IsBetweenRounds x x
-between_none x = record { worker = refl; stands = record { place = refl; known = refl; misses = refl }; counted = record { same = refl; throughout = refl } }
+between_none x = record { worker = refl; stands = record { place = refl; known = refl; misses = refl }; counted = record { same = refl; throughout = refl }; asks = refl }
 
 -- nor does it behind rounds
 rounds_stay : (knows : ℕ → Type 0) (s : Space Parcel) (x y z : Player) (ys : List Player) → AreRounds knows s x ys y → IsBetweenRounds y z → AreRounds knows s x ys z

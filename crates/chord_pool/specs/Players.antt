@@ -250,11 +250,12 @@ pub record IsOnTheWay (s : Space Parcel) (x y : Player) : Type 0 where
   pub counts_so : CountsIfItPlays y
   pub told_nothing : stops y.card ≡ false
 
--- between two rounds a player has the same worker, stands where it stood, and counts as before
+-- between two rounds a player has the same worker, stands where it stood, counts as before, and does not ask whether all are to stop
 pub record IsBetweenRounds (x y : Player) : Type 0 where
   pub worker : y.worker ≡ x.worker
   pub stands : StandsStill x y
   pub counted : CountsAsBefore x.card y.card
+  pub asks : times_asked y.card ≡ times_asked x.card
 
 -- rounds lead from x to y, and these are the players after each of them, the newest first
 abbrev pub AreRounds : (ℕ → Type 0) → Space Parcel → Player → List Player → Player → Type 0

@@ -1,4 +1,4 @@
-//! Where workers crowd at the counter, one that draws less than its share stands aside for a moment. No clause rests on it.
+//! Where workers crowd at the counter, one that draws less than its share stands aside for a moment. No clause says that it does.
 ghost use Rattle.std.specs.Prelude.{◌≡◌, ◌≤◌, ◌+◌};
 ghost use Rattle.chord_roll.specs.Cards.{counts, ended, reads, stops, times_asked, IsSameCard};
 
@@ -62,12 +62,13 @@ impl Crowd {
         (mine, last.saturating_sub(first))
     }
 
-    /// The worker has played a spell. If it has a task, and drew less than its share, it stands aside for a moment.
+    /// The worker has played a spell. If it has a task, and drew less than its share, it stands aside for a moment. It reads the roll
+    /// twice at the most, and does not ask whether all are to stop.
     pub(crate) fn stand_aside<R: Wait>(&mut self, rt: &R, worker: &Worker, card: &mut Card)
         ensures card { IsSameCard card.old card.new × (counts card.new ≡ counts card.old) × (stops card.new ≡ stops card.old) }
         ensures ended { ended card.new ≡ ended card.old }
         ensures reads { reads card.new ≤ reads card.old + 2 }
-        ensures asked { times_asked card.new ≡ times_asked card.old }
+        ensures asks { times_asked card.new ≡ times_asked card.old }
     {
         let (mine, all) = self.catch_up(worker);
         let (mine, all) = (mine as u64, all as u64);

@@ -484,13 +484,12 @@ impl Player {
         true
     }
 
-    /// Between two spells a worker with a task may stand aside (`Crowd`).
+    /// Between two spells a worker with a task may stand aside (`Crowd`). It reads the roll twice at the most.
     fn give_way<R: Wait>(&mut self, rt: &R, crowd: &mut Crowd)
         ensures between { IsBetweenRounds self.old self.new }
         ensures same { self.new.failed ≡ self.old.failed }
         ensures card { IsSameCard self.old.card self.new.card × (stops self.new.card ≡ stops self.old.card) }
         ensures reads { reads self.new.card ≤ reads self.old.card + 2 }
-        ensures asked { times_asked self.new.card ≡ times_asked self.old.card }
     {
         crowd.stand_aside(rt, &self.worker, &mut self.card);
     }

@@ -14,4 +14,6 @@ pub mod FirstBreak
 pub mod Compiled
 pub mod Statuses
 pub mod Exhaustive
+pub mod BodyEnds
 pub mod Machines
+pub mod Spellings

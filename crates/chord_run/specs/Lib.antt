@@ -24,7 +24,9 @@ pub mod Sources
 pub mod Refusals
 -- the line and the column of a byte
 pub mod Positions
--- what holds of each source, of its join machine and of the journal of each report
+-- how a body of a join machine begins, how its asks may be answered, and when it has come to its end
+pub mod BodyEnds
+-- what holds of each source, of its join machine, of the journal of each report, and of what programs spell
 pub mod Laws
 -- ## What only the code's own contracts use
 

@@ -2,7 +2,7 @@
 //! Stands on: chord_base, chord_bodies, chord_classes, chord_code, chord_gen, chord_io, chord_journal, chord_lexer, chord_lists, chord_parser, chord_plain (its tests), chord_pool, chord_rule (its tests), chord_rules, chord_source, chord_space, chord_task, chord_tree, chord_types, chord_word (its tests), chord_worker (its tests), clap, itoa. Used by: chord_prog.
 //! Promise: `chord` writes the lines of the journal it keeps, which is a complete run of the source's join machine, or a run
 //! of as many entries as are allowed; every other answer has its cause (specs/Rows.antt, specs/Answers.antt).
-//! A source has one machine, whose runs serve their callers, or one cause of a refusal (`laws`).
+//! A source has one machine, whose bodies end and whose runs serve their callers and keep to types, or one cause of a refusal (`laws`).
 //! Not here: what a program means (chord_base, chord_source), and what a terminal or a file gives (chord_prog).
 #![tactic(auto)]
 

@@ -15,7 +15,7 @@ use Rattle.chord_base.specs.declared.event.Limits.{Limits}
 use Rattle.chord_base.specs.declared.event.What.{What}
 use Rattle.chord_base.specs.declared.event.What.TheVariants.{Begun, Made, Sent, Called, Printed, Fired, Ended}
 use Rattle.chord_base.specs.Meaning.{Program, Start, Main, Chord, Asked}
-use Rattle.chord_base.specs.Bodies.{Doing, Absent, Unplaced, Ready, Waits, Over, asked, answered, begun, begun_by, doing, heard, own, placed, replied, served, serves, waiting}
+use Rattle.chord_base.specs.Bodies.{Asks, Doing, Absent, Unplaced, Ready, Waits, Over, asked, answered, begun, begun_by, doing, heard, own, placed, replied, served, serves, waiting}
 use Rattle.chord_base.specs.Messages.{Message, maker, message_of}
 use Rattle.chord_base.specs.Machine.{Comes, Fires, IsPast, IsRun}
 use Rattle.chord_base.specs.Story.{AllBelow, HasKind, IsDefined, IsIn, IsOwn, IsSound}
@@ -32,11 +32,12 @@ use Rattle.chord_code.proofs.Plays.{good_left}
 use Rattle.chord_code.proofs.Runs.{due_is, ended_kind, left_more}
 use Rattle.chord_source.specs.Laws.{AreWellTyped, MachinesAreSound, StartFits}
 use Rattle.chord_source.specs.Source.{play_of, source_program}
-use Rattle.chord_source.specs.TypedRuns.{IsResultType, KeepsTypes, RunsKeepTypes}
+use Rattle.chord_source.specs.TypedRuns.{IsResultType, KeepsTypes, PlaysWell, RunsKeepTypes, RunsPlayWell, begins_as}
 use Rattle.chord_source.proofs.Callers.{in_reversed}
+use Rattle.chord_source.proofs.Ends.{each_ends}
 use Rattle.chord_source.proofs.Firings.{chords_right, firing_fits, tells_kind}
 use Rattle.chord_source.proofs.GoodPlays.{good_plays}
-use Rattle.chord_source.proofs.TypedRuns.{EntryFits, as_due_type, fits_later, play_fits, result_more}
+use Rattle.chord_source.proofs.TypedRuns.{BeginsWell, EntryFits, as_due_type, fits_later, play_fits, result_more}
 
 -- what a play's ask says is what the play says
 ask_says : (limits : Limits) (p : Play) → option_map (λ (a : Asked). a.what) (ask_of limits p) ≡ what_of p
@@ -337,46 +338,59 @@ module _ (limits : Limits) (sig : Signatures) (program : Program) (src : Start �
     run_good (e ∷ h) r = step_comes h e.number e.body e.what (past_below program h e.number r.0 (omega (arith, r.1.numbered))) r.1.numbered (run_good h r.0) r.1.comes
 
     -- what a body asks keeps to types
-    asked_entry_fits : (h : List Entry) (b : ℕ) (w : What) (l : ℕ) (d : Doing) → BodyIsGood h b d → asked program d ≡ Some (record { what = w; depth = l }) → EntryFits program sig h b w
-    asked_entry_fits h b w l (Ready s dp rs) k e = play_fits program sig h b k.kind k.play w k.early k.due k.good (playing_asks h b s dp rs w l k e)
+    asked_entry_fits : (h : List Entry) (b : ℕ) (w : What) (l : ℕ) (d : Doing) → BodyIsGood h b d → asked program d ≡ Some (record { what = w; depth = l }) → EntryFits fits program sig h b w
+    asked_entry_fits h b w l (Ready s dp rs) k e = play_fits fits program sig h b k.kind k.play w k.early k.due k.good (playing_asks h b s dp rs w l k e)
     asked_entry_fits h b w l (Waits s dp rs q pl) k e = absurd (none-some _ e)
     asked_entry_fits h b w l (Over x) k e = absurd (none-some _ e)
     asked_entry_fits h b w l Absent k e = absurd (none-some _ e)
     asked_entry_fits h b w l Unplaced k e = absurd (none-some _ e)
 
+    -- what a body asks keeps to types once it is an entry
+    own_fits : (h : List Entry) (n b : ℕ) (w : What) → AllBelow n h → n ≡ length h → RunIsGood h → Asks program h b w → EntryFits fits program sig (own_entry n b w ∷ h) b w
+    own_fits h n b w a i all c = fits_later fits program sig (own_entry n b w) h b w a i (asked_entry_fits h b w c.0 (doing program h b) (all.bodies b) c.1)
+
+    -- `Main` begins as it may, and serves no call
+    main_begins : (n b : ℕ) → b ≡ 0 → BeginsWell fits program sig (own_entry n b Begun ∷ []) b Main
+    main_begins n b z = (omega (arith, z), None, main, inl (elim (either (n == b)) [ inl y ↦ rw y refl | inr o ↦ rw o refl ], refl))
+
     -- what comes next in a good run keeps to types
-    comes_fits : (h : List Entry) (n b : ℕ) (w : What) → RunIsGood h → Comes program h n b w → EntryFits program sig h b w
-    comes_fits h n b Begun all c = tt
-    comes_fits h n b (Fired k o ms vs) all c = tt
-    comes_fits h n b (Made x) all c = tt
-    comes_fits h n b (Printed t) all c = tt
-    comes_fits h n b (Ended x) all c = asked_entry_fits h b (Ended x) c.0 (doing program h b) (all.bodies b) c.1
-    comes_fits h n b (Sent o j vs) all c = asked_entry_fits h b (Sent o j vs) c.0 (doing program h b) (all.bodies b) c.1
-    comes_fits h n b (Called o j vs) all c = asked_entry_fits h b (Called o j vs) c.0 (doing program h b) (all.bodies b) c.1
+    comes_fits : (h : List Entry) (n b : ℕ) (w : What) → AllBelow n h → n ≡ length h → RunIsGood h → Comes program h n b w → EntryFits fits program sig (own_entry n b w ∷ h) b w
+    comes_fits h n b Begun a i all c = subst (λ (v : List Entry). BeginsWell fits program sig (own_entry n b Begun ∷ v) b Main) (sym c.0) (main_begins n b c.1)
+    comes_fits h n b (Fired k o ms vs) a i all c =
+        let r = fired h all n k o ms vs a c.1 in
+        subst (λ v. BeginsWell fits program sig (own_entry n v (Fired k o ms vs) ∷ h) v (Chord k o vs)) (sym c.0) (omega (arith, i), r.0, r.1, r.2)
+    comes_fits h n b (Made x) a i all c = tt
+    comes_fits h n b (Printed t) a i all c = tt
+    comes_fits h n b (Ended x) a i all c = own_fits h n b (Ended x) a i all c
+    comes_fits h n b (Sent o j vs) a i all c = own_fits h n b (Sent o j vs) a i all c
+    comes_fits h n b (Called o j vs) a i all c = own_fits h n b (Called o j vs) a i all c
 
     -- each entry of a run keeps to types
-    past_fits : (h : List Entry) (x : Entry) → IsPast program h → IsIn x h → EntryFits program sig h x.body x.what
+    past_fits : (h : List Entry) (x : Entry) → IsPast program h → IsIn x h → EntryFits fits program sig h x.body x.what
     past_fits [] x r i = absurd i
     past_fits (e ∷ h) x r i =
-        let here : EntryFits program sig h x.body x.what =
+        let below : AllBelow e.number h = past_below program h e.number r.0 (omega (arith, r.1.numbered)) in
         elim i [
-          | inl y ↦ subst (λ (z : Entry). EntryFits program sig h z.body z.what) (sym y) (comes_fits h e.number e.body e.what (run_good h r.0) r.1.comes)
-          | inr y ↦ past_fits h x r.0 y
+          | inl y ↦ subst (λ (z : Entry). EntryFits fits program sig (e ∷ h) z.body z.what) (sym y) (comes_fits h e.number e.body e.what below r.1.numbered (run_good h r.0) r.1.comes)
+          | inr y ↦ fits_later fits program sig e h x.body x.what below r.1.numbered (past_fits h x r.0 y)
         ]
-        in
-        fits_later program sig e h x.body x.what (past_below program h e.number r.0 (omega (arith, r.1.numbered))) r.1.numbered here
 
-    -- each run keeps to types
-    keeps_types : (journal : List Entry) → IsRun program journal → KeepsTypes program sig journal
-    keeps_types journal run = record {
-      sends = λ e o j vs i w. there e (Sent o j vs) i w;
-      calls = λ e o j vs i w. there e (Called o j vs) i w;
-      gives = λ e v i w. (let k = there e (Ended (Gives v)) i w in (k.1, k.2, k.3));
-    }
+    -- an entry of a journal that says this keeps to types
+    journal_fits : (journal : List Entry) → IsRun program journal → (e : Entry) (w : What) → IsIn e journal → e.what ≡ w → EntryFits fits program sig (reverse journal) e.body w
+    journal_fits journal run e w i is = subst (EntryFits fits program sig (reverse journal) e.body) is (past_fits (reverse journal) e run (in_reversed e journal i))
+
+    -- the body that an entry of a journal begins so begins as it may
+    body_begins : (journal : List Entry) → IsRun program journal → (e : Entry) (s : Start) → IsIn e journal → begins_as e.what ≡ Some s → (r : Option StaticType) × fits s r × IsResultType program sig (reverse journal) e.body r
+    body_begins journal run e s i is = by_what e.what refl is
       where
-        -- an entry of the journal that says this keeps to types
-        there : (e : Entry) (w : What) → IsIn e journal → e.what ≡ w → EntryFits program sig (reverse journal) e.body w
-        there e w i is = subst (EntryFits program sig (reverse journal) e.body) is (past_fits (reverse journal) e run (in_reversed e journal i))
+        by_what : (w : What) → e.what ≡ w → begins_as w ≡ Some s → (r : Option StaticType) × fits s r × IsResultType program sig (reverse journal) e.body r
+        by_what Begun q is = subst (λ z. (r : Option StaticType) × fits z r × IsResultType program sig (reverse journal) e.body r) (same_Some _ _ is) (let k = journal_fits journal run e Begun i q in (k.1, k.2, k.3))
+        by_what (Fired c o ms vs) q is = subst (λ z. (r : Option StaticType) × fits z r × IsResultType program sig (reverse journal) e.body r) (same_Some _ _ is) (let k = journal_fits journal run e (Fired c o ms vs) i q in (k.1, k.2, k.3))
+        by_what (Made c) q is = absurd (none-some _ is)
+        by_what (Sent o j vs) q is = absurd (none-some _ is)
+        by_what (Called o j vs) q is = absurd (none-some _ is)
+        by_what (Printed t) q is = absurd (none-some _ is)
+        by_what (Ended x) q is = absurd (none-some _ is)
 
     module _ (kinds : (k j : ℕ) (m : Signature) → sig.methods k j ≡ Some m → program.is_sync k j ≡ m.is_sync) where
       -- what a good play says has the kind of its method
@@ -425,10 +439,29 @@ module _ (sig : Signatures) (p : Resolved) (typed : AreWellTyped sig p) (plan : 
       plays_sound limits sig (source_program p limits) (play_of p limits) (λ s d rs. refl) (StartFits sig p) (λ s d r f. good_plays sig p typed plan limits s d r f) refl source_fired
       (tells_kind sig p plan (source_program p limits) refl refl)
 
-  -- its runs keep to types
-  source_keeps_types : (journal : List Entry) → IsRun (source_program p limits) journal → KeepsTypes (source_program p limits) sig journal
-  source_keeps_types journal run =
-      keeps_types limits sig (source_program p limits) (play_of p limits) (λ s d rs. refl) (StartFits sig p) (λ s d r f. good_plays sig p typed plan limits s d r f) refl source_fired journal run
+  module _ (journal : List Entry) (run : IsRun (source_program p limits) journal) where
+    -- an entry of a run that says this keeps to types
+    source_fits : (e : Entry) (w : What) → IsIn e journal → e.what ≡ w → EntryFits (StartFits sig p) (source_program p limits) sig (reverse journal) e.body w
+    source_fits = journal_fits limits sig (source_program p limits) (play_of p limits) (λ s d rs. refl) (StartFits sig p) (λ s d r f. good_plays sig p typed plan limits s d r f) refl source_fired journal run
+
+    -- the body that an entry of a run begins so begins as it may
+    source_begins : (e : Entry) (s : Start) → IsIn e journal → begins_as e.what ≡ Some s → (r : Option StaticType) × StartFits sig p s r × IsResultType (source_program p limits) sig (reverse journal) e.body r
+    source_begins = body_begins limits sig (source_program p limits) (play_of p limits) (λ s d rs. refl) (StartFits sig p) (λ s d r f. good_plays sig p typed plan limits s d r f) refl source_fired journal run
+
+    -- a run keeps to types
+    source_keeps_types : KeepsTypes p (source_program p limits) sig journal
+    source_keeps_types = record {
+      sends = λ e o j vs i w. source_fits e (Sent o j vs) i w;
+      calls = λ e o j vs i w. source_fits e (Called o j vs) i w;
+      begins = source_begins;
+      gives = λ e v i w. (let k = source_fits e (Ended (Gives v)) i w in (k.1, k.2, k.3));
+    }
+
+    -- each of its bodies plays well
+    source_plays_well : (e : Entry) (s : Start) → IsIn e journal → begins_as e.what ≡ Some s → (r : Option StaticType) × IsResultType (source_program p limits) sig (reverse journal) e.body r × ((d : ℕ) → PlaysWell sig p limits s d r)
+    source_plays_well e s i is =
+        let k = source_begins e s i is in
+        (k.0, k.2, λ d. record { good = good_plays sig p typed plan limits s d k.0 k.1; ends = each_ends sig p typed plan limits s d k.0 k.1 })
 
 -- the join machine of each source whose bodies keep to their static types, and whose plan is as it must be, is sound, and its chords are right
 pub machines_are_sound : MachinesAreSound
@@ -437,3 +470,7 @@ machines_are_sound sig p typed plan limits = record { sound = source_sound sig p
 -- each run of such a machine keeps to types
 pub runs_keep_types : RunsKeepTypes
 runs_keep_types sig p typed plan limits journal run = source_keeps_types sig p typed plan limits journal run
+
+-- each body of such a run plays well
+pub runs_play_well : RunsPlayWell
+runs_play_well sig p typed plan limits journal run = source_plays_well sig p typed plan limits journal run

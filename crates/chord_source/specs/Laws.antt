@@ -23,7 +23,7 @@ StartFits sig p Main r = r ≡ None
 StartFits sig p (Chord k o vs) r =
     (b : BodyOf) × (chord_body p (slice_get (class_chords (slice_get p.classes o.class)) k) ≡ Some b) × HaveAll sig b.parameters vs × (r ≡ b.result)
 
--- What a body does that begins as it may is good: it never goes wrong, its asks fit the signatures, and it gives a value of its result's type.
+-- What a body does that begins as it may is good: it never goes wrong, its asks fit the signatures, and a value that it gives has its result's type.
 abbrev pub GoodPlays : Type 0
 GoodPlays =
     (sig : Signatures) (p : Resolved) → AreWellTyped sig p → IsPlanned sig p → (limits : Limits) (s : Start) (d : ℕ) (r : Option StaticType) → StartFits sig p s r

@@ -13,7 +13,7 @@ pub mod Source
 pub mod Laws
 -- What a run of a sound machine says of its messages and of its callers.
 pub mod Callers
--- What a run of a source's machine says of types.
+-- What a run of a source's machine says of types, and what its bodies do.
 pub mod TypedRuns
 -- What a trap does in a run of a machine that hands traps on, as the machine of a source does.
 pub mod Traps

@@ -5,15 +5,16 @@ ghost use Rattle.chord_source.specs.Callers.{RunsServeCallers};
 ghost use Rattle.chord_source.specs.Laws.{GoodPlays, EachEnds, MachinesAreSound};
 ghost use Rattle.chord_source.specs.Sources.{SoundRuns};
 ghost use Rattle.chord_source.specs.Traps.{RunsKeepTraps, SourcesHandTrapsOn};
-ghost use Rattle.chord_source.specs.TypedRuns.{RunsKeepTypes};
+ghost use Rattle.chord_source.specs.TypedRuns.{RunsKeepTypes, RunsPlayWell};
 
-/// A body that keeps to its static types never goes wrong: its messages have the arguments of their methods, and it gives
-/// a value of its result's type.
+/// A body that keeps to its static types and begins as it may never goes wrong: its messages have the arguments of their
+/// methods, and a value that it gives has its result's type.
 pub fn good()
     ensures { GoodPlays }
 {}
 
-/// A body that keeps to its static types comes to an end after finitely many asks, whatever fits they are answered.
+/// A body that keeps to its static types and begins as it may comes to an end after finitely many asks, whatever fits they
+/// are answered.
 pub fn ends()
     ensures { EachEnds }
 {}
@@ -25,10 +26,18 @@ pub fn sound()
 {}
 
 /// In each run of the join machine of such a source each message that is sent names an asynchronous method of its object's
-/// class, and each that is called a synchronous one, with a value of its type for each parameter. A body that gives a value
-/// gives one of its result type, which is that of the method whose call it serves; one that serves no call gives the unit value.
+/// class, and each that is called a synchronous one, with a value of its type for each parameter and no more values. Each
+/// body begins as it may: `Main` without a result, and that of a firing on values of its parameters' types, with its declared
+/// result as its result type. A body that gives a value gives one of its result type, which is that of the method whose call
+/// it serves, and the unit value where that method has none; one that serves no call gives the unit value.
 pub fn typed()
     ensures { RunsKeepTypes }
+{}
+
+/// So no body of such a run goes wrong, at any depth, and each comes to an end of its result type after finitely many asks,
+/// whatever fits they are answered.
+pub fn bodies()
+    ensures { RunsPlayWell }
 {}
 
 /// In each run of a sound machine no message is taken twice, each caller that is served goes on with the end of the body of

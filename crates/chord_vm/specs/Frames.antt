@@ -18,6 +18,7 @@ use Rattle.chord_code.specs.declared.parts.Parts.{Parts}
 use Rattle.chord_code.specs.declared.parts.Block.{Block}
 use Rattle.chord_code.specs.declared.instruction.Instruction.{Instruction}
 use Rattle.chord_code.specs.declared.instruction.Instruction.TheVariants as instr
+use Rattle.chord_code.specs.Slots.{IsMostSlots}
 use Rattle.chord_code.specs.Machine.{Frame, Machine, Waiting, Did, Goes, Asking, pops, ComesTo}
 
 -- a frame's stack grows at its end
@@ -120,6 +121,10 @@ IsSpacious f (Some b) = b.slots ≤ vec_capacity f.top.slots
 abbrev pub IsRoomFor : Parts → Frames → Type 0
 IsRoomFor code f = (i : ℕ) (b : Block) → slice_get code.blocks i ≡ Some b → b.slots ≤ vec_capacity f.top.slots
 
+-- frames that were just made, of no body: they have room for the slots of the largest block and no other, and hold nothing
+abbrev pub AreBlank : Parts → Frames → Type 0
+AreBlank code f = IsMostSlots code.blocks (vec_capacity f.top.slots) × (f.top.slots.items ≡ []) × (vec_capacity f.top.stack ≡ 0) × (vec_capacity f.below ≡ 0) × (f.builder ≡ None)
+
 -- the frame is there, and its slots have room for so many values
 abbrev pub HasRoom : Option declared_frame.Frame → ℕ → Type 0
 HasRoom None n = ⊥
@@ -133,12 +138,20 @@ IsReady (ForObject None n) f = vec_len f.top.stack < vec_capacity f.top.stack
 IsReady (ForObject (Some b) n) f =
     (vec_len f.top.stack < vec_capacity f.top.stack) × (vec_len f.below < vec_capacity f.below) × HasRoom f.builder b.1
 
--- slots and limits are as they were, and so are operands and blocks that wait, where there was room for one more
+-- the builder's frame stays where it has room for what is awaited; where no builder is, it stays in any case, and so do the blocks that wait
+abbrev pub KeepsBuilder : Awaited → Frames → Frames → Type 0
+KeepsBuilder ForNothing f f' = (f'.below ≡ f.below) × (f'.builder ≡ f.builder)
+KeepsBuilder ForValue f f' = (f'.below ≡ f.below) × (f'.builder ≡ f.builder)
+KeepsBuilder (ForObject None n) f f' = (f'.below ≡ f.below) × (f'.builder ≡ f.builder)
+KeepsBuilder (ForObject (Some b) n) f f' = HasRoom f.builder b.1 → f'.builder ≡ f.builder
+
+-- slots and limits are as they were, and so are operands, blocks that wait and the builder's frame, where there was room for one more
 pub record KeepsRoom (before after : Frames) : Type 0 where
   pub operands : vec_len before.top.stack < vec_capacity before.top.stack → after.top.stack ≡ before.top.stack
   pub blocks : vec_len before.below < vec_capacity before.below → after.below ≡ before.below
   pub slots : after.top.slots ≡ before.top.slots
   pub limits : after.limits ≡ before.limits
+  pub builder : KeepsBuilder before.awaited before after
 
 -- the n last values of one list went to the end of another
 abbrev pub IsMoved : ℕ → List Value → List Value → List Value → List Value → Type 0

@@ -1,10 +1,10 @@
 //! The frames of one body: its blocks at work, and how they begin and are answered without memory.
 #![tactic(auto)]
 
-ghost use Rattle.std.specs.Prelude.{◌≡◌, ◌≢◌, suc, ◌+◌, ◌-◌, ◌^◌, ◌<◌, ◌≤◌, true, false, List, [], ◌∷◌, ◌++◌, IfOk, IsOk, OnOk, All, Some, None, length, slice_get, vec_len, vec_capacity, reverse, replicate};
-ghost use Rattle.chord_code.specs.Slots.{first_slots, IsMostSlots};
+ghost use Rattle.std.specs.Prelude.{◌≡◌, ◌≢◌, suc, ◌+◌, ◌-◌, ◌*◌, ◌^◌, ◌<◌, ◌≤◌, true, false, List, [], ◌∷◌, ◌++◌, IfOk, IsOk, OnOk, All, Some, None, length, slice_get, vec_len, vec_capacity, reverse, replicate};
+ghost use Rattle.chord_code.specs.Slots.{first_slots};
 ghost use Rattle.chord_code.specs.Machine.{body_in_block, with_answer, with_object, pops};
-ghost use Rattle.chord_vm.specs.Frames.{shown_frame, machine_of, frame_with, IsAlwaysCopied, IsSpacious, IsReady, HasRoom, KeepsRoom, IsMoved, IsRoomFor, laid};
+ghost use Rattle.chord_vm.specs.Frames.{shown_frame, machine_of, frame_with, IsAlwaysCopied, IsSpacious, IsReady, HasRoom, KeepsRoom, IsMoved, IsRoomFor, AreBlank, laid};
 
 use chord_base::event::Limits;
 use chord_base::hand::Hand;
@@ -46,12 +46,11 @@ pub struct Frames {
     pub limits: Limits,
 }
 
-/// Frames of no body, with room to begin any block of the code.
+/// Frames of no body, with room to begin any block of the code. They hold nothing, and have no other room.
 pub fn spare(alloc: Global, code: &Code, limits: &Limits) -> Result<Frames, AllocError>
     ensures room { IfOk result (λ frames. IsRoomFor code.now frames) }
     ensures limits { IfOk result (λ frames. frames.limits ≡ limits.now) }
-    ensures lean { IfOk result (λ frames. IsMostSlots code.now.blocks (vec_capacity frames.top.slots)) }
-    ensures bare { IfOk result (λ frames. (vec_capacity frames.top.stack ≡ 0) × (vec_capacity frames.below ≡ 0) × (frames.builder ≡ None)) }
+    ensures lean { IfOk result (λ frames. AreBlank code.now frames) }
 {
     let most = code.most_slots() as usize;
     let top = Frame {
@@ -101,14 +100,25 @@ pub(crate) fn push_reserved(frame: &mut Frame, value: Value)
     frame.place += 1;
 }
 
+/// Takes room for one more item. A list that is full gets twice its room, so that what it takes to grow stays in proportion to its length.
+#[inline(always)]
+fn double<T>(list: &mut Vec<T>) -> Result<(), AllocError>
+    ensures items { list.new.items ≡ list.old.items }
+    ensures room { OnOk result (vec_len list.new < vec_capacity list.new) }
+    ensures doubles { OnOk result (vec_len list.old ≡ vec_capacity list.old → 2 * vec_capacity list.old ≤ vec_capacity list.new) }
+{
+    list.reserve(list.len().max(1))?;
+    Ok(())
+}
+
 /// Takes room for one more operand.
 #[inline(never)]
 fn grow(frame: &mut Frame) -> Result<(), AllocError>
     ensures same { shown_frame frame.new ≡ shown_frame frame.old }
     ensures room { OnOk result (vec_len frame.new.stack < vec_capacity frame.new.stack) }
+    ensures doubles { OnOk result (vec_len frame.old.stack ≡ vec_capacity frame.old.stack → 2 * vec_capacity frame.old.stack ≤ vec_capacity frame.new.stack) }
 {
-    frame.stack.reserve(1)?;
-    Ok(())
+    double(&mut frame.stack)
 }
 
 /// Pushes a value, and goes to the next instruction. Where there is room for it, no memory is taken.
@@ -117,6 +127,7 @@ pub(crate) fn push(frame: &mut Frame, value: Value) -> Result<(), AllocError>
     requires { frame.old.place + 1 < 2 ^ 64 }
     ensures pushed { OnOk result (shown_frame frame.new ≡ frame_with (shown_frame frame.old) (suc frame.old.place) (value ∷ (shown_frame frame.old).stack) (shown_frame frame.old).slots) }
     ensures stays { vec_len frame.old.stack < vec_capacity frame.old.stack → (IsOk result) × (vec_capacity frame.new.stack ≡ vec_capacity frame.old.stack) }
+    ensures doubles { OnOk result (vec_len frame.old.stack ≡ vec_capacity frame.old.stack → 2 * vec_capacity frame.old.stack ≤ vec_capacity frame.new.stack) }
 {
     if frame.stack.len() == frame.stack.capacity() {
         grow(frame)?;
@@ -360,15 +371,18 @@ pub fn begin_with(
     Ok(())
 }
 
-/// Takes the room that the next answer needs, where there is none yet. Where no memory is found the body is as it was.
+/// Takes the room that the next answer needs, and that of an operand, where there is none yet. Where there is room for both nothing changes, and where no memory is
+/// found the body is as it was.
 #[inline(always)]
 pub fn reserve(alloc: Global, frames: &mut Frames) -> Result<(), AllocError>
     ensures same { (machine_of frames.new ≡ machine_of frames.old) × (frames.new.awaited ≡ frames.old.awaited) }
     ensures ready { OnOk result (IsReady frames.new.awaited frames.new) }
     ensures kept { KeepsRoom frames.old frames.new }
+    ensures idle { vec_len frames.old.top.stack < vec_capacity frames.old.top.stack → IsReady frames.old.awaited frames.old → (IsOk result) × (frames.new ≡ frames.old) }
+    ensures doubles { OnOk result (vec_len frames.old.top.stack ≡ vec_capacity frames.old.top.stack → 2 * vec_capacity frames.old.top.stack ≤ vec_capacity frames.new.top.stack) }
 {
     if frames.top.stack.len() == frames.top.stack.capacity() {
-        frames.top.stack.reserve(1)?;
+        double(&mut frames.top.stack)?;
     }
     match frames.awaited {
         Awaited::ForObject(Some((_, slots)), _) => reserve_builder(alloc, frames, slots),
@@ -376,7 +390,18 @@ pub fn reserve(alloc: Global, frames: &mut Frames) -> Result<(), AllocError>
     }
 }
 
-/// Takes the room for a builder with so many slots.
+/// Whether a builder's frame is there, with room for so many slots.
+fn has_builder(builder: &Option<Frame>, slots: u32) -> bool
+    ensures room { result ≡ true → HasRoom builder.now slots }
+    ensures none { result ≡ false → HasRoom builder.now slots → ⊥ }
+{
+    match builder {
+        None => false,
+        Some(frame) => frame.slots.capacity() >= slots as usize,
+    }
+}
+
+/// Takes the room for a builder with so many slots, where there is none yet.
 #[inline(never)]
 fn reserve_builder(alloc: Global, frames: &mut Frames, slots: u32) -> Result<(), AllocError>
     requires stack { vec_len frames.old.top.stack < vec_capacity frames.old.top.stack }
@@ -384,10 +409,16 @@ fn reserve_builder(alloc: Global, frames: &mut Frames, slots: u32) -> Result<(),
     ensures ready { OnOk result ((vec_len frames.new.top.stack < vec_capacity frames.new.top.stack) × (vec_len frames.new.below < vec_capacity frames.new.below) × HasRoom frames.new.builder slots) }
     ensures top { frames.new.top ≡ frames.old.top }
     ensures stays { vec_len frames.old.below < vec_capacity frames.old.below → frames.new.below ≡ frames.old.below }
+    ensures builder { HasRoom frames.old.builder slots → frames.new.builder ≡ frames.old.builder }
+    ensures idle { vec_len frames.old.below < vec_capacity frames.old.below → HasRoom frames.old.builder slots → (IsOk result) × (frames.new ≡ frames.old) }
+    ensures doubles { OnOk result (vec_len frames.old.below ≡ vec_capacity frames.old.below → 2 * vec_capacity frames.old.below ≤ vec_capacity frames.new.below) }
     ensures limits { frames.new.limits ≡ frames.old.limits }
 {
     if frames.below.len() == frames.below.capacity() {
-        frames.below.reserve(1)?;
+        double(&mut frames.below)?;
+    }
+    if has_builder(&frames.builder, slots) {
+        return Ok(());
     }
     frames.builder = Some(Frame {
         block: 0,

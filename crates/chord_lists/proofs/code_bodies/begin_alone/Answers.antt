@@ -1,15 +1,15 @@
-use Rattle.std.proofs.Common.{◌≡◌, ◌∙◌, ◌++◌, ◌∷◌, [], refl, sym, ap, subst, arith, length, reverse, List, ℕ}
+use Rattle.std.proofs.Common.{◌≡◌, ◌∙◌, ◌++◌, ◌∷◌, [], refl, sym, ap, subst, arith, length, take, reverse, List, ℕ}
 use Rattle.std.specs.Prelude.{slice_get}
-use Rattle.std.proofs.lemmas.List.{reverse-append, length-append}
+use Rattle.std.proofs.lemmas.List.{length-append}
 use Rattle.chord_base.specs.declared.value.Value.{Value}
 use Rattle.chord_base.specs.declared.event.Entry.{Entry}
 use Rattle.chord_base.specs.Bodies.{served_among}
 use Rattle.chord_code.specs.Meaning.{code_program}
 use Rattle.chord_task.specs.Standing.{view_of, IsTaskOf, MayResume}
 use Rattle.chord_lists.specs.Engine.{fired}
-use Rattle.chord_lists.specs.CodeStands.{sent_values}
+use Rattle.chord_lists.specs.CodeStands.{sent_values, topped_by}
 use Rattle.chord_lists.proofs.Spots.{one_some}
-use Rattle.chord_lists.proofs.CodeFiring.{firing_sent, may_begin, fired_alone}
+use Rattle.chord_lists.proofs.CodeFiring.{firing_sent, may_begin, fired_alone, topped_first}
 use Rattle.chord_lists.proofs.CodeSteps.{listed_one}
 use Rattle.chord_lists.proofs.code_bodies.begin_alone.Goals as goal
 
@@ -67,14 +67,20 @@ returns-clause-began c =
     let entries = listed_one c.in_ok-task.task.past c.resume_with.new.self.past list c.resume_with.new.list.items e c.in_ok-resume_with.ensures.listed past' ∙ ap (λ l. l ++ e ∷ []) c.reserve.ensures.items in
     fired_alone code limits c.args.bodies.now _ h c.args.number c.args.chord c.args.object c.args.members.now vs c.resume_with.new.self played s f task past c.in_ok-resume_with.ensures.top entries
     c.in_ok-push.ensures.items
-    (ap reverse c.in_ok-push-2.ensures.items ∙ reverse-append c.args.bodies.now.ready.items (c.place_after-at.result ∷ []) ∙ ap (λ i. i ∷ reverse c.args.bodies.now.ready.items) at)
+    (c.in_ok-put_ready.ensures ∙ ap (λ i. topped_by i (reverse c.args.bodies.now.ready.items)) at)
     refl
-    (c.in_ok-push-3.ensures.items ∙ ap (λ i. c.args.bodies.now.homes.items ++ i ∷ []) (c.as_home.ensures ∙ at))
+    (c.in_ok-push-2.ensures.items ∙ ap (λ i. c.args.bodies.now.homes.items ++ i ∷ []) (c.as_home.ensures ∙ at))
 
 pub returns-clause-ready : goal.returns-clause-ready
 returns-clause-ready c =
     let at : c.place_after-at.result ≡ length c.args.bodies.now.tasks.items = c.place_after-at.ensures.place ∙ ap length c.deref.ensures.value in
-    c.in_ok-push-2.ensures.items ∙ ap (λ i. c.args.bodies.now.ready.items ++ i ∷ []) at
+    c.in_ok-put_ready.ensures ∙ ap (λ i. topped_by i (reverse c.args.bodies.now.ready.items)) at
+
+pub returns-clause-top : goal.returns-clause-top
+returns-clause-top c =
+    let homes = c.args.bodies.now.homes.items in
+    let first = ap (λ (z : List ℕ). take 1 z) c.in_ok-put_ready.ensures ∙ topped_first c.place_after-at.result (reverse c.args.bodies.now.ready.items) in
+    c.in_ok-push-2.ensures.items ∙ ap (λ i. homes ++ i ∷ []) c.as_home.ensures ∙ ap (λ z. homes ++ z) (sym first)
 
 pub returns-clause-tasks : goal.returns-clause-tasks
 returns-clause-tasks c = ap length c.in_ok-push.ensures.items ∙ length-append c.args.bodies.now.tasks.items (c.resume_with.new.self ∷ [])

@@ -1,9 +1,8 @@
-use Rattle.std.proofs.Common.{◌∙◌, ap, refl, length, inl, inr, Some}
+use Rattle.std.proofs.Common.{◌∙◌, ap, length, reverse, Some}
 use Rattle.chord_lists.specs.CodeStands.{home}
-use Rattle.chord_lists.proofs.CodeFiring.{caller, call_served}
+use Rattle.chord_lists.proofs.CodeFiring.{caller, call_served, topped_home}
 use Rattle.chord_lists.proofs.CodeOver.{stands_over, stands_later}
-use Rattle.chord_lists.proofs.OverTasks.{none_over}
-use Rattle.chord_lists.proofs.Gaining.{none_went, last_went, all_went}
+use Rattle.chord_lists.proofs.OverTasks.{none_over, none_went, last_went, all_went}
 use Rattle.chord_lists.proofs.code_bodies.begin_body.Goals as goal
 
 pub home_of-at-requires : goal.home_of-at-requires
@@ -60,15 +59,24 @@ returns-in_ok-begin_alone-in-None-next_over-clause-began c =
 
 pub returns-in_ok-begin_at-in-Some-clause-ready : goal.returns-in_ok-begin_at-in-Some-clause-ready
 returns-in_ok-begin_at-in-Some-clause-ready c =
-    (c.home_of-at.result, inl c.in_ok-begin_at-in-Some.ensures.ready)
+    let m = c.requires.may in
+    let e = c.in_ok-begin_at-in-Some.ensures in
+    topped_home c.args.bodies.now.homes.items c.begin_at.new.bodies.homes.items (reverse c.args.bodies.now.ready.items) (reverse c.begin_at.new.bodies.ready.items) c.home_of-at.result c.args.number
+    (m.3.homed ∙ m.2.so_long) e.ready e.top
 
 pub returns-in_ok-begin_at-in-Some-next_over-clause-ready : goal.returns-in_ok-begin_at-in-Some-next_over-clause-ready
 returns-in_ok-begin_at-in-Some-next_over-clause-ready c =
-    (c.in-Some-next_over.at, inl c.in_ok-begin_at-in-Some-next_over.ensures.ready)
+    let m = c.requires.may in
+    let e = c.in_ok-begin_at-in-Some-next_over.ensures in
+    topped_home c.args.bodies.now.homes.items c.begin_at-in-Some-next_over.new.bodies.homes.items (reverse c.args.bodies.now.ready.items) (reverse c.begin_at-in-Some-next_over.new.bodies.ready.items) c.in-Some-next_over.at c.args.number
+    (m.3.homed ∙ m.2.so_long) e.ready e.top
 
 pub returns-in_ok-begin_alone-in-None-next_over-clause-ready : goal.returns-in_ok-begin_alone-in-None-next_over-clause-ready
 returns-in_ok-begin_alone-in-None-next_over-clause-ready c =
-    (length c.args.bodies.now.tasks.items, inr (refl, c.in_ok-begin_alone-in-None-next_over.ensures.ready))
+    let m = c.requires.may in
+    let e = c.in_ok-begin_alone-in-None-next_over.ensures in
+    topped_home c.args.bodies.now.homes.items c.begin_alone.new.bodies.homes.items (reverse c.args.bodies.now.ready.items) (reverse c.begin_alone.new.bodies.ready.items) (length c.args.bodies.now.tasks.items) c.args.number
+    (m.3.homed ∙ m.2.so_long) e.ready e.top
 
 pub returns-in_ok-begin_at-in-Some-clause-over : goal.returns-in_ok-begin_at-in-Some-clause-over
 returns-in_ok-begin_at-in-Some-clause-over c =
@@ -82,3 +90,12 @@ returns-in_ok-begin_at-in-Some-next_over-clause-over c =
 pub returns-in_ok-begin_alone-in-None-next_over-clause-over : goal.returns-in_ok-begin_alone-in-None-next_over-clause-over
 returns-in_ok-begin_alone-in-None-next_over-clause-over c =
     all_went c.args.bodies.now.over.items c.begin_alone.new.bodies.over.items (c.in_ok-begin_alone-in-None-next_over.ensures.over ∙ rw c.in-None-next_over.is at c.next_over.ensures.empty)
+
+pub returns-in_ok-begin_at-in-Some-clause-kept : goal.returns-in_ok-begin_at-in-Some-clause-kept
+returns-in_ok-begin_at-in-Some-clause-kept c = λ some. c.in_ok-begin_at-in-Some.ensures.over
+
+pub returns-in_ok-begin_at-in-Some-next_over-clause-kept : goal.returns-in_ok-begin_at-in-Some-next_over-clause-kept
+returns-in_ok-begin_at-in-Some-next_over-clause-kept c = λ some. absurd (some c.in-None.is)
+
+pub returns-in_ok-begin_alone-in-None-next_over-clause-kept : goal.returns-in_ok-begin_alone-in-None-next_over-clause-kept
+returns-in_ok-begin_alone-in-None-next_over-clause-kept c = λ some. absurd (some c.in-None.is)

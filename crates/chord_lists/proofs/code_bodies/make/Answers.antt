@@ -4,11 +4,11 @@ use Rattle.chord_code.specs.Meaning.{code_program}
 use Rattle.chord_task.specs.declared.task.Task.{Task}
 use Rattle.chord_task.specs.Standing.{view_of, IsTaskOf, is_ready_of}
 use Rattle.chord_task.specs.Past.{AddsOne}
-use Rattle.chord_task.specs.Turning.{MayTurn, Turned}
+use Rattle.chord_task.specs.Turning.{MayTurn, Turned, HasTurned}
 use Rattle.chord_lists.specs.CodeStands.{turn_to}
 use Rattle.chord_lists.proofs.CodeSteps.{ready_task, may_turn, went_at}
 use Rattle.chord_lists.proofs.CodeTasks.{turn_told}
-use Rattle.chord_lists.proofs.Gaining.{over_went}
+use Rattle.chord_lists.proofs.OverTasks.{over_went}
 use Rattle.chord_lists.proofs.code_bodies.make.Goals as goal
 
 pub index_mut-task-requires : goal.index_mut-task-requires
@@ -74,3 +74,18 @@ returns-clause-over c =
     let xs = c.args.bodies.now.tasks.items in
     let t = ready_task xs c.args.at c.requires.ready in
     c.in_ok-keep_over.ensures ∙ sym (over_went xs c.args.at c.turn.new.self t.0 (reverse c.args.bodies.now.over.items) t.1)
+
+pub returns-clause-turned : goal.returns-clause-turned
+returns-clause-turned c =
+    let xs = c.args.bodies.now.tasks.items in
+    let task = c.index_mut-task.result.now in
+    let t = ready_task xs c.args.at c.requires.ready in
+    let e : task ≡ t.0 = c.index_mut-task.ensures.value ∙ get_or_from_slice_get xs c.args.at t.0 task t.1 in
+    record {
+      before = t.0;
+      after = c.turn.new.self;
+      sent = c.in_ok-sent.sent;
+      there = t.1;
+      turned = subst (λ (x : Task). HasTurned c.args.code.now c.args.limits.now x c.turn.new.self c.args.number c.in_ok-sent.sent) e c.in_ok-sent.ensures.turned;
+      is = refl;
+    }

@@ -1,5 +1,5 @@
-use Rattle.std.proofs.Common.{◌≡◌, ◌∙◌, sym, ap, subst, arith, length, true}
-use Rattle.chord_lists.specs.CodeStands.{home, ready_at}
+use Rattle.std.proofs.Common.{◌≡◌, ◌∙◌, ◌++◌, ◌∷◌, [], sym, ap, subst, arith, length, reverse, true}
+use Rattle.chord_lists.specs.CodeStands.{home, ready_at, with_over, HasTurnedAt}
 use Rattle.chord_lists.proofs.CodeReplay.{entry_asks_in, ready_there, made_again}
 use Rattle.chord_lists.proofs.code_bodies.repeat.Goals as goal
 
@@ -22,3 +22,19 @@ returns-clause-replayed c =
     λ h played s f within.
     let at : c.home_of-at.result ≡ home c.args.bodies.now.homes.items c.args.entry.now.body = c.home_of-at.ensures ∙ ap (λ z. home z c.args.entry.now.body) c.deref.ensures.value in
     made_again c.args.code.now c.args.limits.now c.args.bodies.now c.make.new.bodies h c.args.entry.now c.home_of-at.result c.in_ok-make.field-0 s c.requires.own f at (c.in_ok-make.ensures.went h played s)
+
+pub returns-clause-homed : goal.returns-clause-homed
+returns-clause-homed c =
+    let homes = c.args.bodies.now.homes.items in
+    let at : c.home_of-at.result ≡ home homes c.args.entry.now.body = c.home_of-at.ensures ∙ ap (λ z. home z c.args.entry.now.body) c.deref.ensures.value in
+    c.in_ok-make.ensures.homed ∙ ap (λ i. homes ++ i ∷ []) at
+
+pub returns-clause-over : goal.returns-clause-over
+returns-clause-over c =
+    let at : c.home_of-at.result ≡ home c.args.bodies.now.homes.items c.args.entry.now.body = c.home_of-at.ensures ∙ ap (λ z. home z c.args.entry.now.body) c.deref.ensures.value in
+    subst (λ i. reverse c.make.new.bodies.over.items ≡ with_over c.make.new.bodies.tasks.items i (reverse c.args.bodies.now.over.items)) at c.in_ok-make.ensures.over
+
+pub returns-clause-turned : goal.returns-clause-turned
+returns-clause-turned c =
+    let at : c.home_of-at.result ≡ home c.args.bodies.now.homes.items c.args.entry.now.body = c.home_of-at.ensures ∙ ap (λ z. home z c.args.entry.now.body) c.deref.ensures.value in
+    subst (λ i. HasTurnedAt c.args.code.now c.args.limits.now c.args.bodies.now.tasks.items c.make.new.bodies.tasks.items i c.args.entry.now.number) at c.in_ok-make.ensures.turned

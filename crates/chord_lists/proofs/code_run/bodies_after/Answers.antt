@@ -35,4 +35,4 @@ loop-i-preserved c =
     let lt : c.loop-i.i < length c.args.entries.now = omega (arith, c.loop-i-test.true) in
     let n = next_entry (code_program code limits) c.args.entries.now c.loop-i.i c.index-entries-i.result lt c.index-entries-i.is c.requires.run c.requires.within.within in
     subst (λ h. StandsAfter code limits c.replay.new.bodies h) (sym n.more)
-    (c.in_ok-replay.ensures (reverse (take c.loop-i.i c.args.entries.now)) n.played c.loop-i.invariant n.follows n.within)
+    (c.in_ok-replay.ensures.replayed (reverse (take c.loop-i.i c.args.entries.now)) n.played c.loop-i.invariant n.follows n.within)

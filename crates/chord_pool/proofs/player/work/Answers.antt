@@ -6,7 +6,7 @@ use Rattle.chord_pool.proofs.Rounds.{no_rounds, more_rounds, rounds_and_between,
 use Rattle.chord_pool.proofs.player.work.Goals as goal
 
 pub loop-init : goal.loop-init
-loop-init g c = (search rules, search rules, search rules, search rules, search rules, search rules, no_rounds g.G.Gate.knows c.args.run.now.space.now c.args.player _ (record { worker = refl; stands = record { place = refl; known = refl; misses = refl }; counted = record { same = refl; throughout = refl } }))
+loop-init g c = (search rules, search rules, search rules, search rules, search rules, search rules, no_rounds g.G.Gate.knows c.args.run.now.space.now c.args.player _ (record { worker = refl; stands = record { place = refl; known = refl; misses = refl }; counted = record { same = refl; throughout = refl }; asks = refl }))
 
 pub loop-preserved : goal.loop-preserved
 loop-preserved g c = let was = c.loop.invariant in let now = c.if-not-rounds.ensures in let between = c.give_way.ensures in (

@@ -1,9 +1,13 @@
-use Rattle.chord_run.proofs.Causes.{cause_refuses}
+use Rattle.chord_run.proofs.Causes.{cause_refuses, one_program}
 use Rattle.chord_run.proofs.Exact.{one_line, one_machine}
 use Rattle.chord_run.proofs.Exhaustive.{accepted_or_cause}
 use Rattle.chord_run.proofs.Lines.{accepted_has_machine, cause_has_line, machine_is_of_accepted}
 use Rattle.chord_run.proofs.OneCause.{one_cause}
+use Rattle.chord_run.proofs.Spellings.{refused_by_rule}
 use Rattle.chord_run.proofs.laws.sources.Goals as goal
+
+pub returns-clause-program : goal.returns-clause-program
+returns-clause-program c = one_program
 
 pub returns-clause-machine : goal.returns-clause-machine
 returns-clause-machine c = one_machine
@@ -28,3 +32,6 @@ returns-clause-exhaustive c = accepted_or_cause c.splits.ensures
 
 pub returns-clause-apart : goal.returns-clause-apart
 returns-clause-apart c = cause_refuses
+
+pub returns-clause-by_rule : goal.returns-clause-by_rule
+returns-clause-by_rule c = refused_by_rule

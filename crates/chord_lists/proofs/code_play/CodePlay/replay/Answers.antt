@@ -1,12 +1,13 @@
 use Rattle.std.proofs.Common.{◌∷◌, subst}
+use Rattle.chord_base.specs.Story.{IsOwn}
 use Rattle.chord_code.specs.Meaning.{code_program}
 use Rattle.chord_lists.specs.CodeStands.{StandsAfter}
 use Rattle.chord_lists.proofs.CodeReplay.{fired_again}
 use Rattle.std.proofs.lemmas.Option.{slice_get_within}
 use Rattle.chord_lists.proofs.code_play.CodePlay.replay.Goals as goal
 
-pub returns-in_ok-begin-in-Fired : goal.returns-in_ok-begin-in-Fired
-returns-in_ok-begin-in-Fired c =
+pub returns-in_ok-begin-in-Fired-clause-replayed : goal.returns-in_ok-begin-in-Fired-clause-replayed
+returns-in_ok-begin-in-Fired-clause-replayed c =
     λ h played s f within.
     let code = c.args.self.now.code.now in
     let limits = c.args.self.now.limits.now in
@@ -19,3 +20,18 @@ methods-methods-requires c =
     let p = code_program c.args.self.now.code.now c.args.self.now.limits.now in
     let x = fired_again p m.0 c.args.entry.now c.in-Fired.chord c.in-Fired.object c.in-Fired.members c.in-Fired.field-3 c.in-Fired.is m.3 in
     slice_get_within (p.chords c.in-Fired.object.class) c.in-Fired.chord x.0.0 x.0.1
+
+pub returns-in_ok-begin-in-Fired-clause-ready : goal.returns-in_ok-begin-in-Fired-clause-ready
+returns-in_ok-begin-in-Fired-clause-ready c = λ own. absurd (subst IsOwn c.in-Fired.is own)
+
+pub returns-in_ok-begin-in-Fired-clause-homed : goal.returns-in_ok-begin-in-Fired-clause-homed
+returns-in_ok-begin-in-Fired-clause-homed c = λ own. absurd (subst IsOwn c.in-Fired.is own)
+
+pub returns-in_ok-begin-in-Fired-clause-over : goal.returns-in_ok-begin-in-Fired-clause-over
+returns-in_ok-begin-in-Fired-clause-over c = λ own. absurd (subst IsOwn c.in-Fired.is own)
+
+pub returns-in_ok-begin-in-Fired-clause-turned : goal.returns-in_ok-begin-in-Fired-clause-turned
+returns-in_ok-begin-in-Fired-clause-turned c = λ own. absurd (subst IsOwn c.in-Fired.is own)
+
+pub returns-in_ok-begin-in-Fired-clause-tasks : goal.returns-in_ok-begin-in-Fired-clause-tasks
+returns-in_ok-begin-in-Fired-clause-tasks c = λ own. absurd (subst IsOwn c.in-Fired.is own)

@@ -5,7 +5,7 @@ use Rattle.chord_pool.proofs.Rounds.{no_rounds, one_round_more}
 use Rattle.chord_pool.proofs.player.Player.rounds.Goals as goal
 
 pub loop-round-init : goal.loop-round-init
-loop-round-init g c = (search rules, search rules, search rules, search rules, search rules, search rules, no_rounds g.G.Gate.knows c.args.run.now.space.now c.args.self.now _ (record { worker = refl; stands = record { place = refl; known = refl; misses = refl }; counted = record { same = search rules; throughout = search rules } }))
+loop-round-init g c = (search rules, search rules, search rules, search rules, search rules, search rules, no_rounds g.G.Gate.knows c.args.run.now.space.now c.args.self.now _ (record { worker = refl; stands = record { place = refl; known = refl; misses = refl }; counted = record { same = search rules; throughout = search rules }; asks = search rules }))
 
 pub loop-round-preserved : goal.loop-round-preserved
 loop-round-preserved g c =
