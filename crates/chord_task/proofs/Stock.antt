@@ -1,5 +1,5 @@
 -- The frames in stock, and those of bodies that have ended, once an ask became an entry.
-use Rattle.std.proofs.Common.{◌≡◌, true, false, Option, None, Some, refl, sym, ap, ◌∙◌, subst, Box, Global}
+use Rattle.std.proofs.Common.{◌≡◌, true, false, Option, None, Some, refl, sym, ap, ◌∙◌, subst, Box, Global, Vec, ◌<◌, vec_len, vec_capacity}
 use Rattle.chord_base.specs.declared.event.End.{End}
 use Rattle.chord_base.specs.declared.event.What.{What}
 use Rattle.chord_base.specs.Printed.{is_end}
@@ -8,10 +8,11 @@ use Rattle.chord_vm.specs.Frames.{what_of_ask}
 use Rattle.chord_vm.specs.declared.ask.Ask.{Ask}
 use Rattle.chord_vm.specs.declared.ask.Ask.TheVariants as ask
 use Rattle.chord_task.specs.declared.body.Body.{Body}
+use Rattle.chord_task.specs.declared.body.Caller.{Caller}
 use Rattle.chord_task.specs.declared.task.Task.{Task}
 use Rattle.chord_base.specs.declared.event.Limits.{Limits}
 use Rattle.chord_vm.specs.declared.frames.Frames.{Frames}
-use Rattle.chord_task.specs.Standing.{body_number, IsRoomierTop, IsStocked, KeepsList, KeepsStock, KeepsFrames, SettlesFrames, WasStocked}
+use Rattle.chord_task.specs.Standing.{body_number, IsRoomierTop, IsStocked, LosesNoFrames, HasMadeRoom, LosesNothing, KeepsList, KeepsStock, KeepsFrames, SettlesFrames, WasStocked}
 use Rattle.chord_task.proofs.Turning.{with_body, with_frames}
 
 -- an entry that is no end leaves the frames as they were
@@ -41,15 +42,37 @@ end_of o a b put e =
     let same : a ≡ b = cc in
     ap (λ (x : Ask). is_end (what_of_ask x)) same
 
+-- callers for which there was room have as much afterwards
+same_room : (code : Parts) (t s t' : Task) → HasMadeRoom code t s → vec_capacity t'.below ≡ vec_capacity s.below → vec_len t.below < vec_capacity t.below → vec_capacity t'.below ≡ vec_capacity t.below
+same_room code t s t' m callers room = callers ∙ ap (λ (v : Vec Caller Global). vec_capacity v) (m.room room)
+
 -- an ask that ends no body was settled
-pub settles_on : (code : Parts) (t s t' : Task) (o : Option Ask) (a b : Ask) → o ≡ Some b → is_end (what_of_ask b) ≡ false → o ≡ Some a → IsRoomierTop t.top s.top → IsStocked code t.limits t.spare t.ended s.spare s.ended → KeepsList t.values s.values → t'.values ≡ s.values → t'.spare ≡ s.spare → t'.ended ≡ s.ended → SettlesFrames code t (what_of_ask a) t'
-settles_on code t s t' o a b put goes_on e roomier stocked list values spare ended = record { between = s; roomier = roomier; stocked = stocked; list = list; kept = kept_on (what_of_ask a) s t' (end_of o a b put e ∙ goes_on) values spare ended }
+pub settles_on : (code : Parts) (t s t' : Task) (o : Option Ask) (a b : Ask) → o ≡ Some b → is_end (what_of_ask b) ≡ false → o ≡ Some a → HasMadeRoom code t s → vec_capacity t'.below ≡ vec_capacity s.below → t'.values ≡ s.values → t'.spare ≡ s.spare → t'.ended ≡ s.ended → SettlesFrames code t (what_of_ask a) t'
+settles_on code t s t' o a b put goes_on e m callers values spare ended =
+    record {
+      between = s;
+      roomier = m.top;
+      stocked = m.stocked;
+      list = m.list;
+      kept = kept_on (what_of_ask a) s t' (end_of o a b put e ∙ goes_on) values spare ended;
+      frames = m.frames;
+      callers = same_room code t s t' m callers;
+    }
 
 -- an end was settled
-pub settles_end : (code : Parts) (t s t' : Task) (o : Option Ask) (a : Ask) (x : End) → o ≡ Some (ask.End x) → o ≡ Some a → IsRoomierTop t.top s.top → IsStocked code t.limits t.spare t.ended s.spare s.ended → KeepsList t.values s.values → t'.values ≡ s.values → t'.spare ≡ s.spare → ((b : Body) → s.top ≡ Some b → t'.ended ≡ Some b.frames) → SettlesFrames code t (what_of_ask a) t'
-settles_end code t s t' o a x put e roomier stocked list values spare ended = record { between = s; roomier = roomier; stocked = stocked; list = list; kept = keeps_ended (what_of_ask a) s t' (end_of o a (ask.End x) put e) values spare ended }
+pub settles_end : (code : Parts) (t s t' : Task) (o : Option Ask) (a : Ask) (x : End) → o ≡ Some (ask.End x) → o ≡ Some a → HasMadeRoom code t s → vec_capacity t'.below ≡ vec_capacity s.below → t'.values ≡ s.values → t'.spare ≡ s.spare → ((b : Body) → s.top ≡ Some b → t'.ended ≡ Some b.frames) → SettlesFrames code t (what_of_ask a) t'
+settles_end code t s t' o a x put e m callers values spare ended =
+    record {
+      between = s;
+      roomier = m.top;
+      stocked = m.stocked;
+      list = m.list;
+      kept = keeps_ended (what_of_ask a) s t' (end_of o a (ask.End x) put e) values spare ended;
+      frames = m.frames;
+      callers = same_room code t s t' m callers;
+    }
 
--- more room, and the number of the body on top
+-- more room leaves the number of the body on top as it was
 top_stays : (o o' : Option Body) → IsRoomierTop o o' → body_number o' ≡ body_number o
 top_stays None None r = refl
 top_stays (Some b) (Some b') r = ap Some r.0
@@ -65,17 +88,21 @@ settled_stock code t t' b f w is x =
       stocked = x.stocked;
       list = x.list;
       kept = x.kept;
+      frames = x.frames;
+      callers = x.callers;
     }
 
 -- frames and a list were seen to in a task whose frames and list were as they are, before its ask became an entry
-pub kept_stock : (code : Parts) (t r s t' : Task) (w : What) → r.limits ≡ t.limits → KeepsStock t r → body_number s.top ≡ body_number t.top → IsStocked code r.limits r.spare r.ended s.spare s.ended → KeepsList r.values s.values → KeepsFrames w s t' → WasStocked code t w t'
-kept_stock code t r s t' w limited same top x list kept =
+pub kept_stock : (code : Parts) (t r s t' : Task) (w : What) → r.limits ≡ t.limits → KeepsStock t r → body_number s.top ≡ body_number t.top → IsStocked code r.limits r.spare r.ended s.spare s.ended → LosesNothing code r s → KeepsFrames w s t' → vec_capacity t'.below ≡ vec_capacity s.below → WasStocked code t w t'
+kept_stock code t r s t' w limited same top x lost kept callers =
     let under : IsStocked code t.limits r.spare r.ended s.spare s.ended = subst (λ (l : Limits). IsStocked code l r.spare r.ended s.spare s.ended) limited x in
     let from : IsStocked code t.limits t.spare r.ended s.spare s.ended = subst (λ (z : Option (Box Frames Global)). IsStocked code t.limits z r.ended s.spare s.ended) same.0 under in
     record {
       between = s;
       top = top;
       stocked = subst (λ (z : Option (Box Frames Global)). IsStocked code t.limits t.spare z s.spare s.ended) same.1 from;
-      list = λ some. list (λ none. some (sym same.2 ∙ none)) ∙ same.2;
+      list = λ some. lost.list (λ none. some (sym same.2 ∙ none)) ∙ same.2;
       kept = kept;
+      frames = subst (λ (z : Option (Box Frames Global)). LosesNoFrames t.spare z s.spare s.ended) same.1 (subst (λ (z : Option (Box Frames Global)). LosesNoFrames z r.ended s.spare s.ended) same.0 lost.frames);
+      callers = λ room. callers ∙ ap (λ (v : Vec Caller Global). vec_capacity v) (lost.room (subst (λ (v : Vec Caller Global). vec_len v < vec_capacity v) (sym same.3) room) ∙ same.3);
     }

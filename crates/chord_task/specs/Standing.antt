@@ -19,7 +19,7 @@ use Rattle.chord_code.specs.Machine.{Machine, Asking, with_answer, ComesToAsk, I
 use Rattle.chord_code.specs.Fuel.{comes_to}
 use Rattle.chord_code.specs.Meaning.{Point, At, FailsBy, code_program, stands, asked_of}
 use Rattle.chord_vm.specs.declared.frames.Frames.{Frames}
-use Rattle.chord_vm.specs.Frames.{machine_of, waiting_of, what_of_ask, Advanced, IsReady, IsRoomFor, KeepsRoom}
+use Rattle.chord_vm.specs.Frames.{machine_of, waiting_of, what_of_ask, Advanced, IsReady, IsRoomFor, AreBlank, KeepsRoom}
 use Rattle.chord_vm.specs.declared.ask.Ask.{Ask}
 use Rattle.chord_task.specs.Arguments.{IsList, MayBeList}
 use Rattle.chord_base.specs.Printed.{is_end}
@@ -154,10 +154,12 @@ abbrev pub HasRoomFor : Parts → Limits → Option (Box Frames Global) → Type
 HasRoomFor code limits None = Unit {0}
 HasRoomFor code limits (Some f) = IsSpareOf code limits f.value
 
--- frames for the next body were seen to: those in stock stay, and where there are none, those of a body that has ended serve if they have room for each block
+-- frames for the next body were seen to: those in stock stay, and where there are none, those of a body that has ended serve if they have room for each block;
+-- where these do not serve, new ones were made
 pub record IsStocked (code : Parts) (limits : Limits) (spare ended spare' ended' : Option (Box Frames Global)) : Type 0 where
   pub stays : (spare ≡ None → ⊥) → (spare' ≡ spare) × (ended' ≡ ended)
   pub again : spare ≡ None → IsSomeAnd ended (λ f. IsSpareOf code limits f.value) → (spare' ≡ ended) × (ended' ≡ None)
+  pub fresh : spare ≡ None → (IsSomeAnd ended (λ f. IsSpareOf code limits f.value) → ⊥) → IsSomeAnd spare' (λ f. AreBlank code f.value)
 
 -- no frames were lost: those in stock and those of a body that has ended stay, or the latter came to a stock that had none
 pub record LosesNoFrames (spare ended spare' ended' : Option (Box Frames Global)) : Type 0 where
@@ -168,9 +170,9 @@ pub record LosesNoFrames (spare ended spare' ended' : Option (Box Frames Global)
 abbrev pub KeepsList : Option (Vec Value Global) → Option (Vec Value Global) → Type 0
 KeepsList before after = (before ≡ None → ⊥) → after ≡ before
 
--- the frames in stock, those of a body that has ended, and the list of values are as they were
+-- the frames in stock, those of a body that has ended, the list of values and the callers are as they were, and so is the room for callers
 abbrev pub KeepsStock : Task → Task → Type 0
-KeepsStock before after = (after.spare ≡ before.spare) × (after.ended ≡ before.ended) × (after.values ≡ before.values)
+KeepsStock before after = (after.spare ≡ before.spare) × (after.ended ≡ before.ended) × (after.values ≡ before.values) × (after.below ≡ before.below)
 
 -- after the entry of this ask the frames in stock and the list of values are as they were, and the frames of the body on top are kept for another body, if it ended
 pub record KeepsFrames (w : What) (before after : Task) : Type 0 where
@@ -384,6 +386,9 @@ pub record HasMadeRoom (code : Parts) (before after : Task) : Type 0 where
   pub ready : IsReserved code after
   pub stocked : IsStocked code before.limits before.spare before.ended after.spare after.ended
   pub list : KeepsList before.values after.values
+  pub room : vec_len before.below < vec_capacity before.below → after.below ≡ before.below
+  pub frames : LosesNoFrames before.spare before.ended after.spare after.ended
+  pub enclosed : after.enclosed ≡ before.enclosed
 
 -- nothing of the task was lost: it may have more room, and nothing else of it has changed
 pub record LosesNothing (code : Parts) (before after : Task) : Type 0 where
@@ -402,18 +407,24 @@ pub record LosesNothing (code : Parts) (before after : Task) : Type 0 where
 abbrev pub MainBegins : Parts → Limits → Type 0
 MainBegins code limits = IsSome ((code_program code limits).next Main 1 [])
 
--- frames for the next body were seen to, and then this ask became an entry
+-- frames for the next body were seen to, and none were lost; a list of values that was there stayed. Then this ask became an entry, and the frames of the body that
+-- it ended, if it is an end, are kept; where there was room for one more caller, there is as much as before
 pub record SettlesFrames (code : Parts) (before : Task) (w : What) (after : Task) : Type 0 where
   pub between : Task
   pub roomier : IsRoomierTop before.top between.top
   pub stocked : IsStocked code before.limits before.spare before.ended between.spare between.ended
   pub list : KeepsList before.values between.values
   pub kept : KeepsFrames w between after
+  pub frames : LosesNoFrames before.spare before.ended between.spare between.ended
+  pub callers : vec_len before.below < vec_capacity before.below → vec_capacity after.below ≡ vec_capacity before.below
 
--- frames for the next body were seen to, with the same body on top, and then this ask became an entry
+-- frames for the next body were seen to, and none were lost; a list of values that was there stayed, and the body of that number stayed on top. Then this ask became
+-- an entry, and the frames that were on top are kept, if it is an end; where there was room for one more caller, there is as much as before
 pub record WasStocked (code : Parts) (before : Task) (w : What) (after : Task) : Type 0 where
   pub between : Task
   pub top : body_number between.top ≡ body_number before.top
   pub stocked : IsStocked code before.limits before.spare before.ended between.spare between.ended
   pub list : KeepsList before.values between.values
   pub kept : KeepsFrames w between after
+  pub frames : LosesNoFrames before.spare before.ended between.spare between.ended
+  pub callers : vec_len before.below < vec_capacity before.below → vec_capacity after.below ≡ vec_capacity before.below

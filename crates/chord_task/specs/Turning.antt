@@ -50,7 +50,7 @@ abbrev pub sent_of : Option What → Option (Object × ℕ)
 sent_of None = None
 sent_of (Some w) = sent_to w
 
--- its next ask became the entry of this number, this is what its message is to, and frames for the next body were seen to
+-- its next ask became the entry of this number, this is what its message is to, and frames for the next body were seen to before that
 abbrev pub HasTurned : Parts → Limits → Task → Task → ℕ → Option (Object × ℕ) → Type 0
 HasTurned code limits before after n sent = (w : What) × Turned code limits before after n w × (sent ≡ sent_to w) × WasStocked code before w after
 

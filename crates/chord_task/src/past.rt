@@ -75,6 +75,7 @@ pub(crate) fn append(past: &mut Past, list: &mut Vec<Entry>, entry: Entry)
     requires place { vec_len list.old < vec_capacity list.old }
     ensures past { past.new ≡ past.old ++ entry ∷ [] }
     ensures items { list.new.items ≡ list.old.items ++ entry ∷ [] }
+    ensures capacity { vec_capacity list.new ≡ vec_capacity list.old }
 {
     past.add(&entry);
     list.push_reserved(entry);

@@ -6,10 +6,9 @@ ghost use Rattle.chord_base.specs.declared.event.Limits.{Limits as TheLimits};
 ghost use Rattle.chord_base.specs.declared.event.What.{What as AWhat};
 ghost use Rattle.chord_base.specs.Printed.{is_end};
 ghost use Rattle.chord_code.specs.declared.parts.Parts.{Parts};
-ghost use Rattle.chord_code.specs.Slots.{IsMostSlots};
 ghost use Rattle.chord_code.specs.Meaning.{code_program, chord_lines};
 ghost use Rattle.chord_vm.specs.declared.frames.Frames.{Frames as TheFrames};
-ghost use Rattle.chord_vm.specs.Frames.{IsAlwaysCopied, laid, what_of_ask};
+ghost use Rattle.chord_vm.specs.Frames.{AreBlank, IsAlwaysCopied, laid, what_of_ask};
 ghost use Rattle.chord_task.specs.declared.body.Body.{Body as ABody};
 ghost use Rattle.chord_task.specs.Arguments.{for_entry, AreTwice, MayBeList, IsList, HasOneAtMost};
 ghost use Rattle.chord_task.specs.Past.{AddsOne};
@@ -85,10 +84,10 @@ pub(crate) fn depth_over(depth: u32, top: &Option<Body>) -> u32
     }
 }
 
-/// New frames with room for each block. They lie in a box, so that a body, a task and a parcel are small where they are moved.
+/// New frames with room for each block, and no other. They lie in a box, so that a body, a task and a parcel are small where they are moved.
 fn new_frames(alloc: Global, code: &Code, limits: &Limits) -> Result<Box<Frames>, AllocError>
     ensures spare { IfOk result (λ f. IsSpareOf code.now limits.now f.value) }
-    ensures lean { IfOk result (λ f. IsMostSlots code.now.blocks (vec_capacity f.value.top.slots)) }
+    ensures lean { IfOk result (λ f. AreBlank code.now f.value) }
 {
     let frames = spare_frames(alloc, code, limits)?;
     let boxed = Box::new(alloc, frames)?;
@@ -117,6 +116,7 @@ fn put_new(
     requires { spare.old ≡ None }
     ensures kept { HasRoomFor code.now limits.now spare.new }
     ensures some { OnOk result ((f : Box TheFrames Global) × (spare.new ≡ Some f) × IsSpareOf code.now limits.now f.value) }
+    ensures lean { OnOk result (IsSomeAnd spare.new (λ f. AreBlank code.now f.value)) }
 {
     *spare = Some(new_frames(alloc, code, limits)?);
     Ok(())
@@ -135,6 +135,7 @@ fn restock(
     ensures kept { HasRoomFor code.now limits.now spare.new }
     ensures some { OnOk result ((f : Box TheFrames Global) × (spare.new ≡ Some f) × IsSpareOf code.now limits.now f.value) }
     ensures served { IsSomeAnd ended.old (λ f. IsSpareOf code.now limits.now f.value) → (spare.new ≡ ended.old) × (ended.new ≡ None) × IsOk result }
+    ensures lean { OnOk result ((IsSomeAnd ended.old (λ f. IsSpareOf code.now limits.now f.value) → ⊥) → IsSomeAnd spare.new (λ f. AreBlank code.now f.value)) }
     ensures frames { LosesNoFrames spare.old ended.old spare.new ended.new }
 {
     if may_serve(code, limits, ended) {
@@ -156,7 +157,7 @@ fn reserve_spare(
     ensures kept { HasRoomFor code.now limits.now spare.new }
     ensures some { OnOk result ((f : Box TheFrames Global) × (spare.new ≡ Some f) × IsSpareOf code.now limits.now f.value) }
     ensures served { spare.old ≡ None → IsSomeAnd ended.old (λ f. IsSpareOf code.now limits.now f.value) → (spare.new ≡ ended.old) × (ended.new ≡ None) × IsOk result }
-    ensures stocked { IsStocked code.now limits.now spare.old ended.old spare.new ended.new }
+    ensures stocked { OnOk result (IsStocked code.now limits.now spare.old ended.old spare.new ended.new) }
     ensures frames { LosesNoFrames spare.old ended.old spare.new ended.new }
 {
     match spare {
@@ -171,6 +172,7 @@ fn reserve_one<T>(list: &mut Vec<T>) -> Result<(), AllocError>
     ensures items { list.new.items ≡ list.old.items }
     ensures room { OnOk result (vec_len list.new < vec_capacity list.new) }
     ensures stays { vec_len list.old < vec_capacity list.old → list.new ≡ list.old }
+    ensures short { vec_len list.old < vec_capacity list.old → IsOk result }
 {
     if list.len() < list.capacity() {
         return Ok(());
@@ -326,7 +328,7 @@ fn begun(list: &mut Vec<Entry>) -> Result<Past, AllocError>
 
 impl Task {
     #[tactic(auto, using(chord_code::proofs::Validity::valid_forward))]
-    /// Body 0, and the entry that begins it, which goes to the list. Where no memory is found, nothing was made.
+    /// Body 0, and the entry that begins it, which goes to the list. It has nothing in stock. Where no memory is found, nothing was made.
     pub fn main(
         alloc: Global,
         code: &Code,
@@ -337,6 +339,7 @@ impl Task {
         ensures task { IfOk result (λ t. IsTaskOf code.now limits.now t) }
         ensures past { IfOk result (λ t. (view_of t).past ≡ record { number = 0; body = 0; what = What.Begun } ∷ []) }
         ensures top { IfOk result (λ t. (view_of t).top ≡ Some 0) }
+        ensures lean { IfOk result (λ t. (t.spare ≡ None) × (t.ended ≡ None) × (t.values ≡ None) × (vec_capacity t.below ≡ 0)) }
         ensures listed { OnOk result (list.new.items ≡ list.old.items ++ record { number = 0; body = 0; what = What.Begun } ∷ []) }
         ensures kept { OnErr result (list.new.items ≡ list.old.items) }
     {
@@ -360,13 +363,13 @@ impl Task {
         })
     }
 
-    /// No body, and room for one.
+    /// No body, and room for one: for one caller, frames as chord_vm's `spare` makes them, a list of 64 values, and nothing else.
     pub fn spare(alloc: Global, code: &Code, limits: &Limits) -> Result<Task, AllocError>
         ensures task { IfOk result (λ t. IsTaskOf code.now limits.now t) }
         ensures past { IfOk result (λ t. (view_of t).past ≡ []) }
         ensures top { IfOk result (λ t. (view_of t).top ≡ None) }
         ensures room { IfOk result (λ t. IsResumable code.now t) }
-        ensures lean { IfOk result (λ t. (vec_capacity t.below ≡ 1) × IsSomeAnd t.values (λ list. vec_capacity list ≡ 64) × IsSomeAnd t.spare (λ f. IsMostSlots code.now.blocks (vec_capacity f.value.top.slots))) }
+        ensures lean { IfOk result (λ t. (vec_capacity t.below ≡ 1) × IsSomeAnd t.values (λ list. vec_capacity list ≡ 64) × IsSomeAnd t.spare (λ f. AreBlank code.now f.value) × (t.ended ≡ None)) }
     {
         let _parts = code.parts();
         let below = Vec::with_capacity(alloc, 1)?;
@@ -487,6 +490,8 @@ impl Task {
         ensures listed { AddsOne self.old.past self.new.past list.old.items list.new.items }
         ensures noted { (code : Parts) (limits : TheLimits) → IsTaskOf code limits self.old → (may : MayNote code limits self.old number) → IsTaskOf code limits self.new × task_noted (view_of self.old) number may.what (view_of self.new) × (is_end may.what ≡ false → (view_of self.new).top ≡ (view_of self.old).top) }
         ensures frames { (w : AWhat) → given_by self.old.top ≡ Some w → KeepsFrames w self.old self.new }
+        ensures callers { vec_capacity self.new.below ≡ vec_capacity self.old.below }
+        ensures capacity { vec_capacity list.new ≡ vec_capacity list.old }
     {
         match &mut self.top {
             None => unreachable!(),

@@ -30,6 +30,7 @@ fn append(past: &mut Past, list: &mut Vec<Entry>, number: u32, body: u32, what: 
     requires { vec_len list.old < vec_capacity list.old }
     ensures past { past.new ≡ past.old ++ record { number = number; body = body; what = what } ∷ [] }
     ensures items { list.new.items ≡ list.old.items ++ record { number = number; body = body; what = what } ∷ [] }
+    ensures capacity { vec_capacity list.new ≡ vec_capacity list.old }
 {
     list.push_reserved(Entry { number, body, what });
     past.add_last(list);
@@ -42,6 +43,7 @@ fn append_made(past: &mut Past, list: &mut Vec<Entry>, number: u32, body: u32, c
     requires { vec_len list.old < vec_capacity list.old }
     ensures past { past.new ≡ past.old ++ record { number = number; body = body; what = What.Made class } ∷ [] }
     ensures items { list.new.items ≡ list.old.items ++ record { number = number; body = body; what = What.Made class } ∷ [] }
+    ensures capacity { vec_capacity list.new ≡ vec_capacity list.old }
 {
     append(past, list, number, body, What::Made(class));
 }
@@ -64,6 +66,7 @@ fn append_printed(past: &mut Past, list: &mut Vec<Entry>, number: u32, body: u32
     requires { vec_len list.old < vec_capacity list.old }
     ensures past { past.new ≡ past.old ++ record { number = number; body = body; what = What.Printed text } ∷ [] }
     ensures items { list.new.items ≡ list.old.items ++ record { number = number; body = body; what = What.Printed text } ∷ [] }
+    ensures capacity { vec_capacity list.new ≡ vec_capacity list.old }
 {
     append(past, list, number, body, What::Printed(text));
 }
@@ -82,6 +85,7 @@ fn append_sent(
     requires { vec_len list.old < vec_capacity list.old }
     ensures past { past.new ≡ past.old ++ record { number = number; body = body; what = What.Sent object method arguments.old } ∷ [] }
     ensures items { list.new.items ≡ list.old.items ++ record { number = number; body = body; what = What.Sent object method arguments.old } ∷ [] }
+    ensures capacity { vec_capacity list.new ≡ vec_capacity list.old }
     ensures bare { AreBare arguments.new }
 {
     match arguments.items() {
@@ -117,6 +121,7 @@ fn append_called(
     requires { vec_len list.old < vec_capacity list.old }
     ensures past { past.new ≡ past.old ++ record { number = number; body = body; what = What.Called object method arguments.old } ∷ [] }
     ensures items { list.new.items ≡ list.old.items ++ record { number = number; body = body; what = What.Called object method arguments.old } ∷ [] }
+    ensures capacity { vec_capacity list.new ≡ vec_capacity list.old }
     ensures bare { AreBare arguments.new }
 {
     match arguments.items() {
@@ -150,6 +155,7 @@ fn append_number(past: &mut Past, list: &mut Vec<Entry>, number: u32, body: u32,
     requires { vec_len list.old < vec_capacity list.old }
     ensures past { past.new ≡ past.old ++ record { number = number; body = body; what = What.Ended (End.Gives (Value.Int lone)) } ∷ [] }
     ensures items { list.new.items ≡ list.old.items ++ record { number = number; body = body; what = What.Ended (End.Gives (Value.Int lone)) } ∷ [] }
+    ensures capacity { vec_capacity list.new ≡ vec_capacity list.old }
 {
     let end = End::Gives(Value::Int(lone));
     append(past, list, number, body, What::Ended(end));
@@ -161,6 +167,7 @@ fn append_ended(past: &mut Past, list: &mut Vec<Entry>, number: u32, body: u32, 
     requires { vec_len list.old < vec_capacity list.old }
     ensures past { past.new ≡ past.old ++ record { number = number; body = body; what = What.Ended end.old } ∷ [] }
     ensures items { list.new.items ≡ list.old.items ++ record { number = number; body = body; what = What.Ended end.old } ∷ [] }
+    ensures capacity { vec_capacity list.new ≡ vec_capacity list.old }
     ensures bare { IsBareEnd end.new }
 {
     let taken = mem::replace(end, End::Gives(Value::Unit));
@@ -263,7 +270,8 @@ fn sent_by(what: &What) -> Option<(Object, u8)>
 
 impl Task {
     /// The next ask of the body on top becomes the entry of this number. As `prepare`, `reserve` and `note`, but the ask is
-    /// moved once. Gives what a message is to, where the entry is one. Where no memory is found, the task can only be dropped.
+    /// moved once. Gives what a message is to, where the entry is one. What is in stock stays, the frames of a body that ends are kept for another one, and
+    /// where there is room for an entry or a caller no more is taken. Where no memory is found, the task can only be dropped.
     pub fn turn(
         &mut self,
         alloc: Global,
@@ -277,6 +285,7 @@ impl Task {
         requires may { MayTurn (code_program code.now limits.now) (view_of self.old) number }
         ensures turned { IfOk result (λ sent. HasTurned code.now limits.now self.old self.new number sent) }
         ensures listed { OnOk result (AddsOne self.old.past self.new.past list.old.items list.new.items) }
+        ensures entries { OnOk result (vec_len list.old < vec_capacity list.old → vec_capacity list.new ≡ vec_capacity list.old) }
     {
         if self.runs() {
             return self.run_turn(alloc, code, limits, number, list);
@@ -328,6 +337,7 @@ impl Task {
         requires may { MayTurn (code_program code.now limits.now) (view_of self.old) number }
         ensures turned { IfOk result (λ sent. HasTurned code.now limits.now self.old self.new number sent) }
         ensures listed { OnOk result (AddsOne self.old.past self.new.past list.old.items list.new.items) }
+        ensures entries { OnOk result (vec_len list.old < vec_capacity list.old → vec_capacity list.new ≡ vec_capacity list.old) }
     {
         self.prepare(alloc, code, limits)?;
         self.reserve(alloc, code, list)?;
@@ -350,6 +360,7 @@ impl Task {
         requires may { MayTurn (code_program code.now limits.now) (view_of self.old) number }
         ensures turned { IfOk result (λ sent. HasTurned code.now limits.now self.old self.new number sent) }
         ensures listed { OnOk result (AddsOne self.old.past self.new.past list.old.items list.new.items) }
+        ensures entries { OnOk result (vec_len list.old < vec_capacity list.old → vec_capacity list.new ≡ vec_capacity list.old) }
     {
         match &mut self.top {
             None => unreachable!(),
@@ -407,6 +418,7 @@ impl Task {
         requires second { second.old ≡ text_of_end end.old }
         ensures past { (b : ABody) → self.old.top ≡ Some b → self.new.past ≡ self.old.past ++ record { number = number; body = b.number; what = What.Ended end.old } ∷ [] }
         ensures items { (b : ABody) → self.old.top ≡ Some b → list.new.items ≡ list.old.items ++ record { number = number; body = b.number; what = What.Ended end.old } ∷ [] }
+        ensures capacity { vec_capacity list.new ≡ vec_capacity list.old }
         ensures below { vec_capacity self.new.below ≡ vec_capacity self.old.below }
         ensures ended { HasReturned end.old self.old.below self.new.below self.new.top }
         ensures rest { self.new ≡ record { past = self.new.past; top = self.new.top; below = self.new.below; spare = self.old.spare; ended = self.new.ended; values = self.old.values; limits = self.old.limits; enclosed = self.old.enclosed } }
@@ -448,6 +460,8 @@ impl Task {
         requires second { second.old ≡ text_of_ask asked.old }
         ensures settled { (t : ATask) → AwaitsNumber code.now t self.old number asked.old → (a : Ask) × (asked.old ≡ Some a) × HasSettled code.now t number (what_of_ask a) self.new × (result ≡ sent_to (what_of_ask a)) }
         ensures listed { AddsOne self.old.past self.new.past list.old.items list.new.items }
+        ensures callers { vec_capacity self.new.below ≡ vec_capacity self.old.below }
+        ensures capacity { vec_capacity list.new ≡ vec_capacity list.old }
         ensures bare { OwnsNothing asked.new }
         ensures none { second.new ≡ None }
         ensures over { (t : ATask) → HasMadeRoom code.now t self.old → (e : AnEnd) → asked.old ≡ Some (Ask.End e) → vec_len t.below ≡ 0 → self.new.top ≡ None }

@@ -106,21 +106,21 @@ returns-in-End-clause-over c = λ t m e _ none.
 
 pub returns-in-Make-clause-frames : goal.returns-in-Make-clause-frames
 returns-in-Make-clause-frames c = λ t m a e.
-    settles_on c.args.code.now t c.args.self.now _ c.args.asked.now a (ask.Make c.in-Make.class) (c.in-Some-asked.is ∙ ap Some c.in-Make.is) refl e m.top m.stocked m.list refl refl refl
+    settles_on c.args.code.now t c.args.self.now _ c.args.asked.now a (ask.Make c.in-Make.class) (c.in-Some-asked.is ∙ ap Some c.in-Make.is) refl e m refl refl refl refl
 
 pub returns-in-Send-clause-frames : goal.returns-in-Send-clause-frames
 returns-in-Send-clause-frames c = λ t m a e.
-    settles_on c.args.code.now t c.args.self.now _ c.args.asked.now a (ask.Send c.in-Send.object c.in-Send.method c.in-Send.arguments) (c.in-Some-asked.is ∙ ap Some c.in-Send.is) refl e m.top m.stocked m.list refl refl refl
+    settles_on c.args.code.now t c.args.self.now _ c.args.asked.now a (ask.Send c.in-Send.object c.in-Send.method c.in-Send.arguments) (c.in-Some-asked.is ∙ ap Some c.in-Send.is) refl e m refl refl refl refl
 
 pub returns-in-Call-clause-frames : goal.returns-in-Call-clause-frames
 returns-in-Call-clause-frames c = λ t m a e.
-    settles_on c.args.code.now t c.args.self.now _ c.args.asked.now a (ask.Call c.in-Call.object c.in-Call.method c.in-Call.arguments) (c.in-Some-asked.is ∙ ap Some c.in-Call.is) refl e m.top m.stocked m.list refl refl refl
+    settles_on c.args.code.now t c.args.self.now _ c.args.asked.now a (ask.Call c.in-Call.object c.in-Call.method c.in-Call.arguments) (c.in-Some-asked.is ∙ ap Some c.in-Call.is) refl e m refl refl refl refl
 
 pub returns-in-Print-clause-frames : goal.returns-in-Print-clause-frames
 returns-in-Print-clause-frames c = λ t m a e.
-    settles_on c.args.code.now t c.args.self.now _ c.args.asked.now a (ask.Print c.take_text.result) (c.in-Some-asked.is ∙ c.take_text.ensures.text) refl e m.top m.stocked m.list refl refl refl
+    settles_on c.args.code.now t c.args.self.now _ c.args.asked.now a (ask.Print c.take_text.result) (c.in-Some-asked.is ∙ c.take_text.ensures.text) refl e m refl refl refl refl
 
 pub returns-in-End-clause-frames : goal.returns-in-End-clause-frames
 returns-in-End-clause-frames c = λ t m a e.
     let h = c.end_turn.ensures in
-    settles_end c.args.code.now t c.args.self.now _ c.args.asked.now a c.in-End.end (c.in-Some-asked.is ∙ ap Some c.in-End.is) e m.top m.stocked m.list (ap (λ (t : Task). t.values) h.rest) (ap (λ (t : Task). t.spare) h.rest) (λ b top. h.frames b (sym c.in-Some.is ∙ top))
+    settles_end c.args.code.now t c.args.self.now _ c.args.asked.now a c.in-End.end (c.in-Some-asked.is ∙ ap Some c.in-End.is) e m h.below (ap (λ (t : Task). t.values) h.rest) (ap (λ (t : Task). t.spare) h.rest) (λ b top. h.frames b (sym c.in-Some.is ∙ top))
