@@ -22,6 +22,7 @@ pub mod operation;
 pub mod origins;
 mod past;
 pub mod prefix;
+pub mod room;
 pub mod spelled;
 pub mod static_type;
 pub mod text;

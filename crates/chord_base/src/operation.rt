@@ -1,7 +1,7 @@
 //! The operators on values, as code that is at work evaluates them.
 #![tactic(auto)]
 
-ghost use Rattle.std.specs.Prelude.{◌≡◌, ◌≢◌, IfOk, Some};
+ghost use Rattle.std.specs.Prelude.{◌≡◌, ◌≢◌, IfOk, IsOk, Some};
 ghost use Rattle.std.specs.Int.{int_wrapping_div};
 ghost use Rattle.std.specs.Int.RustNames.{int_rem};
 ghost use mir.Syntax.{w32};
@@ -56,7 +56,8 @@ pub fn compute(
     right: Value,
 ) -> Result<Outcome, AllocError>
     requires { computed operation left right ≢ Mistyped }
-    ensures { IfOk result (λ outcome. IsComputed (computed operation left right) outcome) }
+    ensures value { IfOk result (λ outcome. IsComputed (computed operation left right) outcome) }
+    ensures lean { operation ≢ Operation.Join → IsOk result }
 {
     match operation {
         Operation::Join => join(alloc, &left, &right),

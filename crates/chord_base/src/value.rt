@@ -1,7 +1,8 @@
 //! Values of the language, and lists of them.
 #![tactic(auto)]
 
-ghost use Rattle.std.specs.Prelude.{◌≡◌, ◌+◌, ◌≤◌, List, [], ◌∷◌, ◌++◌, length, vec_len, vec_capacity, true, IfOk, OnOk};
+ghost use Rattle.std.specs.Prelude.{◌≡◌, ◌+◌, ◌≤◌, List, [], ◌∷◌, ◌++◌, length, vec_len, vec_capacity, true, IfOk, IsOk, OnOk};
+ghost use Rattle.chord_base.specs.Copies.{IsAlwaysCopied};
 ghost use Rattle.chord_base.specs.Stores.{values_in};
 
 use crate::text::Text;
@@ -36,9 +37,10 @@ pub enum Value {
 }
 
 impl Value {
-    /// An equal value.
+    /// An equal value. It fails only where a text of more than 8 bytes has too many owners to be counted.
     pub fn copied(&self, alloc: Global) -> Result<Value, AllocError>
-        ensures { IfOk result (λ v. v ≡ self.now) }
+        ensures equal { IfOk result (λ v. v ≡ self.now) }
+        ensures short { IsAlwaysCopied self.now → IsOk result }
     {
         match self {
             Value::Unit => Ok(Value::Unit),

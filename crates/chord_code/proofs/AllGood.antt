@@ -21,7 +21,7 @@ use Rattle.chord_code.specs.declared.parts.Parts.{Parts}
 use Rattle.chord_code.specs.Machine.{IsForward}
 use Rattle.chord_code.specs.Meaning.{code_program}
 use Rattle.chord_code.specs.Plays.{Play, MakesObject, SendsMessage, CallsMethod, PrintsLine, EndsBody, GoesWrong, Good, EndFits, what_of}
-use Rattle.chord_code.specs.Runs.{sent, IsFitMessage, IsDueType, IsPlaying, BodyPlays, AllGood}
+use Rattle.chord_code.specs.Runs.{sent, IsFitMessage, IsResultType, IsPlaying, BodyPlays, AllGood}
 use Rattle.chord_code.proofs.Runs.{playing_more, playing_asks, ended_kind, answer_fits}
 
 -- a later entry changes nothing of earlier messages
@@ -37,11 +37,19 @@ sent_below n q m (e ∷ h) a s =
 pub sent_more : (e : Entry) (q : ℕ) (m : Message) (h : List Entry) → AllBelow e.number h → sent q h ≡ Some m → sent q (e ∷ h) ≡ Some m
 sent_more e q m h a s = (let less = sent_below e.number q m h a s in let o : (e.number == q) ≡ false = ne_eqb e.number q (λ i. omega (arith, i, less)) in rw (o, s))
 
--- the type that is due of a body stays after one more entry
-pub due_more : (p : Program) (sig : Signatures) (e : Entry) (h : List Entry) (b : ℕ) (r : Option StaticType) → AllBelow e.number h → b < e.number → IsDueType p sig h b r → IsDueType p sig (e ∷ h) b r
-due_more p sig e h b r a l due =
+-- the result type of a body stays after one more entry
+pub result_more : (p : Program) (sig : Signatures) (e : Entry) (h : List Entry) (b : ℕ) (r : Option StaticType) → AllBelow e.number h → b < e.number → IsResultType p sig h b r → IsResultType p sig (e ∷ h) b r
+result_more p sig e h b r a l is =
     let o : (e.number == b) ≡ false = ne_eqb e.number b (λ i. omega (arith, i, l)) in
-    elim due [ inl none ↦ inl (rw (o, none)) | inr d ↦ inr (d.0, d.1, d.2, rw (o, d.3), sent_more e d.0 d.1 h a d.4, d.5, d.6) ]
+    elim is [
+      | inl none ↦ inl (rw o none.0, none.1)
+      | inr s ↦
+          inr (
+            s.0,
+            record { call = s.1.call; message = s.1.message; serves_call = rw o s.1.serves_call; is_message = sent_more e s.1.call s.1.message h a s.1.is_message; found = s.1.found },
+            s.2,
+          )
+    ]
 
 -- a body that plays goes on so after an entry that leaves it as it is
 abbrev pub playing_later : (code : Parts) (limits : Limits) (sig : Signatures) (src : Start → ℕ → Play) (e : Entry) (h : List Entry) (b : ℕ) (s : Start) (d : ℕ) (rs : List End) → AllBelow e.number h → e.number ≡ length h → IsPlaying code limits sig src h b s d rs → IsPlaying code limits sig src (e ∷ h) b s d rs
@@ -53,7 +61,7 @@ playing_later code limits sig src e h b s d rs a n k =
       good = k.good;
       early = (let i = k.early in omega (arith, i));
       plays = k.plays;
-      due = due_more (code_program code limits) sig e h b k.kind a (let i = k.early in omega (arith, i, n)) k.due;
+      due = result_more (code_program code limits) sig e h b k.kind a (let i = k.early in omega (arith, i, n)) k.due;
     }
 
 -- a body that does what it did

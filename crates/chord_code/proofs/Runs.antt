@@ -19,7 +19,7 @@ use Rattle.chord_code.specs.declared.parts.Parts.{Parts}
 use Rattle.chord_code.specs.Machine.{IsForward}
 use Rattle.chord_code.specs.Meaning.{point_of, begins, code_program, stands, asked_of}
 use Rattle.chord_code.specs.Plays.{Play, MakesObject, SendsMessage, CallsMethod, PrintsLine, EndsBody, GoesWrong, PlaysAt, Good, left_of, left_after, ask_of, EndFits, what_of}
-use Rattle.chord_code.specs.Runs.{sent, IsFitMessage, IsDueType, IsPlaying, BodyPlays, AreLocal}
+use Rattle.chord_code.specs.Runs.{sent, IsFitMessage, IsResultType, IsPlaying, BodyPlays, AreLocal}
 use Rattle.chord_code.proofs.Asks.{points_more}
 use Rattle.chord_code.proofs.Plays.{good_left, plays_left, plays_asks, plays_point, asks_exactly}
 
@@ -95,19 +95,19 @@ same_some : {A : Type 0} (x y : A) → Some x ≡ Some y → x ≡ y
 same_some x y e = cc
 
 -- the kind of a body that serves this call
-pub due_is : (p : Program) (sig : Signatures) (h : List Entry) (b q : ℕ) (r : Option StaticType) (m : Message) (method : Signature) → IsDueType p sig h b r → serves p b h ≡ Some q → sent q h ≡ Some m → sig.methods m.object.class m.method ≡ Some method → r ≡ method.result
+pub due_is : (p : Program) (sig : Signatures) (h : List Entry) (b q : ℕ) (r : Option StaticType) (m : Message) (method : Signature) → IsResultType p sig h b r → serves p b h ≡ Some q → sent q h ≡ Some m → sig.methods m.object.class m.method ≡ Some method → r ≡ method.result
 due_is p sig h b q r m method due s t f =
     elim due [
-      | inl none ↦ (let z : ◌≡◌ {A = Option ℕ} None (Some q) = sym none ∙ s in cc)
+      | inl none ↦ (let z : ◌≡◌ {A = Option ℕ} None (Some q) = sym none.0 ∙ s in cc)
       | inr d ↦
-          (let a : d.0 ≡ q = same_some d.0 q (sym d.3 ∙ s) in
-          let c : d.1 ≡ m = same_some d.1 m (sym d.4 ∙ ap (λ z. sent z h) a ∙ t) in
-          let g : d.2 ≡ method = same_some d.2 method (sym d.5 ∙ ap (λ (z : Message). sig.methods z.object.class z.method) c ∙ f) in
-          d.6 ∙ ap (λ (z : Signature). z.result) g)
+          (let a : d.1.call ≡ q = same_some d.1.call q (sym d.1.serves_call ∙ s) in
+          let c : d.1.message ≡ m = same_some d.1.message m (sym d.1.is_message ∙ ap (λ z. sent z h) a ∙ t) in
+          let g : d.0 ≡ method = same_some d.0 method (sym d.1.found ∙ ap (λ (z : Message). sig.methods z.object.class z.method) c ∙ f) in
+          d.2 ∙ ap (λ (z : Signature). z.result) g)
     ]
 
 -- that value fits the call that it answers
-pub answer_fits : (code : Parts) (limits : Limits) (sig : Signatures) (src : Start → ℕ → Play) (h : List Entry) (b q : ℕ) (r : Option StaticType) (m : Message) (p : Play) (v : Value) → IsDueType (code_program code limits) sig h b r → Has sig r v → serves (code_program code limits) b h ≡ Some q → sent q h ≡ Some m → IsFitMessage sig m → what_of p ≡ Some (Called m.object m.method m.arguments) → EndFits sig p (Gives v)
+pub answer_fits : (code : Parts) (limits : Limits) (sig : Signatures) (src : Start → ℕ → Play) (h : List Entry) (b q : ℕ) (r : Option StaticType) (m : Message) (p : Play) (v : Value) → IsResultType (code_program code limits) sig h b r → Has sig r v → serves (code_program code limits) b h ≡ Some q → sent q h ≡ Some m → IsFitMessage sig m → what_of p ≡ Some (Called m.object m.method m.arguments) → EndFits sig p (Gives v)
 answer_fits code limits sig src h b q r m (CallsMethod l o j vs k) v due is s t fit e =
     let z : Called o j vs ≡ Called m.object m.method m.arguments = cc in
     let a : m.object ≡ o = cc in
@@ -121,7 +121,7 @@ answer_fits code limits sig src h b q r m (EndsBody x) v due is s t fit e = (let
 answer_fits code limits sig src h b q r m GoesWrong v due is s t fit e = (let z : ◌≡◌ {A = Option What} None (Some (Called m.object m.method m.arguments)) = e in cc)
 
 -- a body that begins
-pub playing_begins : (code : Parts) (limits : Limits) (sig : Signatures) (src : Start → ℕ → Play) (fits : Start → Option StaticType → Type 0) (h : List Entry) (b : ℕ) (s : Start) (d : ℕ) (r : Option StaticType) → AreLocal code limits sig src fits → fits s r → IsDueType (code_program code limits) sig h b r → b < length h → IsPlaying code limits sig src h b s d []
+pub playing_begins : (code : Parts) (limits : Limits) (sig : Signatures) (src : Start → ℕ → Play) (fits : Start → Option StaticType → Type 0) (h : List Entry) (b : ℕ) (s : Start) (d : ℕ) (r : Option StaticType) → AreLocal code limits sig src fits → fits s r → IsResultType (code_program code limits) sig h b r → b < length h → IsPlaying code limits sig src h b s d []
 playing_begins code limits sig src fits h b s d r local f due early =
     let k = local.plays s d r f in
     record { play = src s d; is = refl; kind = r; good = k.0; plays = plays_point code sig r (src s d) (begins code limits s d) k.0 k.1; early = early; due = due }

@@ -28,10 +28,18 @@ pub record IsFitMessage (sig : Signatures) (m : Message) : Type 0 where
   pub found : sig.methods m.object.class m.method ≡ Some method
   pub arguments : HaveAll sig method.parameters m.arguments
 
--- The kind of a body's value: that of the method that it serves, if it serves a call. What it says of a history it says of each longer one.
-abbrev pub IsDueType : Program → Signatures → List Entry → ℕ → Option StaticType → Type 0
-IsDueType p sig h b r =
-    (serves p b h ≡ None) ⊎ ((q : ℕ) × (m : Message) × (method : Signature) × (serves p b h ≡ Some q) × (sent q h ≡ Some m) × (sig.methods m.object.class m.method ≡ Some method) × (r ≡ method.result))
+-- a body serves a call of this method
+pub record ServesMethod (program : Program) (sig : Signatures) (history : List Entry) (body : ℕ) (method : Signature) : Type 0 where
+  pub call : ℕ
+  pub message : Message
+  pub serves_call : serves program body history ≡ Some call
+  pub is_message : sent call history ≡ Some message
+  pub found : sig.methods message.object.class message.method ≡ Some method
+
+-- The result type of a body: that of the method whose call it serves, and none where it serves no call. What it says of a history it says of each longer one.
+abbrev pub IsResultType : Program → Signatures → List Entry → ℕ → Option StaticType → Type 0
+IsResultType program sig history body result =
+    ((serves program body history ≡ None) × (result ≡ None)) ⊎ ((method : Signature) × ServesMethod program sig history body method × (result ≡ method.result))
 
 -- a body that stands where a good play is left
 pub record IsPlaying (code : Parts) (limits : Limits) (sig : Signatures) (src : Start → ℕ → Play) (h : List Entry) (b : ℕ) (s : Start) (d : ℕ) (rs : List End) : Type 0 where
@@ -42,7 +50,7 @@ pub record IsPlaying (code : Parts) (limits : Limits) (sig : Signatures) (src : 
   pub good : Good sig kind play
   pub early : b < length h
   pub plays : PlaysAt code play (stands code limits s d rs)
-  pub due : IsDueType (code_program code limits) sig h b kind
+  pub due : IsResultType (code_program code limits) sig h b kind
 
 -- what is known of a body: it does what is left of its play
 abbrev pub BodyPlays : Parts → Limits → Signatures → (Start → ℕ → Play) → List Entry → ℕ → Doing → Type 0
@@ -66,4 +74,4 @@ pub record AreLocal (code : Parts) (limits : Limits) (sig : Signatures) (src : S
 pub record IsPlan (code : Parts) (limits : Limits) (sig : Signatures) (src : Start → ℕ → Play) (fits : Start → Option StaticType → Type 0) : Type 0 where
   pub main : fits Main None
   pub fired : (h : List Entry) (n k : ℕ) (o : Object) (ms : List ℕ) (vs : List Value) → AllBelow n h → AllGood code limits sig src h → Fires (code_program code limits) h k o ms vs →
-      (r : Option StaticType) × fits (Chord k o vs) r × IsDueType (code_program code limits) sig (record { number = n; body = n; what = Fired k o ms vs } ∷ h) n r
+      (r : Option StaticType) × fits (Chord k o vs) r × IsResultType (code_program code limits) sig (record { number = n; body = n; what = Fired k o ms vs } ∷ h) n r

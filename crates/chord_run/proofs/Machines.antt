@@ -18,11 +18,12 @@ use Rattle.chord_run.specs.Sources.{IsMachine, IsProgramOf}
 use Rattle.chord_run.specs.Written.{Due}
 use Rattle.chord_run.specs.declared.command.Request.{Request}
 use Rattle.chord_run.specs.declared.refusal.Refusal.{Refusal}
+use Rattle.chord_code.specs.Runs.{IsResultType}
 use Rattle.chord_source.specs.Callers.{RunsServeCallers}
 use Rattle.chord_source.specs.Laws.{AreWellTyped, EachEnds, IsSoundMachine, MachinesAreSound}
 use Rattle.chord_source.specs.Source.{source_program}
 use Rattle.chord_source.specs.Traps.{HandsTrapsOn, RunsKeepTraps, SourcesHandTrapsOn}
-use Rattle.chord_source.specs.TypedRuns.{IsResultType, KeepsTypes, RunsKeepTypes, RunsPlayWell}
+use Rattle.chord_source.specs.TypedRuns.{KeepsTypes, RunsKeepTypes, RunsPlayWell}
 use Rattle.chord_tree.specs.Tree.{ProgramTree}
 
 -- a program that breaks no rule breaks none of these

@@ -24,10 +24,11 @@ use Rattle.chord_run.specs.declared.command.Request.{Request}
 use Rattle.chord_run.specs.declared.refusal.Refusal.{Refusal}
 use Rattle.chord_run.specs.declared.refusal.Refusal.TheVariants.{Rule}
 use Rattle.chord_run.specs.declared.report.Report.{Report}
+use Rattle.chord_code.specs.Runs.{IsResultType}
 use Rattle.chord_source.specs.Callers.{ServesCallers}
 use Rattle.chord_source.specs.Laws.{IsSoundMachine}
 use Rattle.chord_source.specs.Traps.{KeepsTraps}
-use Rattle.chord_source.specs.TypedRuns.{IsResultType, KeepsTypes, PlaysWell, begins_as}
+use Rattle.chord_source.specs.TypedRuns.{KeepsTypes, PlaysWell, begins_as}
 use Rattle.chord_tree.specs.Program.{IsProgram, spelling, token_kinds, without_span}
 use Rattle.chord_tree.specs.Tree.{ProgramTree}
 

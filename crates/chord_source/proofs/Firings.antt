@@ -19,11 +19,10 @@ use Rattle.chord_base.proofs.Waits.{either}
 use Rattle.chord_bodies.specs.Resolved.{MethodOf, ClassOf, ChordOf, Resolved}
 use Rattle.chord_bodies.specs.Planned.{AreConcatenated, gives, if_sync, is_sync_in, ChordIs, IsPlanned}
 use Rattle.chord_code.specs.Laws.{ChordsAreRight}
-use Rattle.chord_code.specs.Runs.{sent, IsFitMessage}
+use Rattle.chord_code.specs.Runs.{sent, IsFitMessage, IsResultType}
 use Rattle.chord_code.proofs.AllGood.{sent_more}
 use Rattle.chord_source.specs.Source.{chord_body, class_chords, class_methods, plan_is_sync}
 use Rattle.chord_source.specs.Laws.{StartFits}
-use Rattle.chord_source.specs.TypedRuns.{IsResultType}
 
 -- values of some types and values of others, joined, have these types joined
 have_types_together : (sig : Signatures) (ts us : List StaticType) (vs ws : List Value) → HaveAll sig ts vs → HaveAll sig us ws → HaveAll sig (ts ++ us) (vs ++ ws)

@@ -1,5 +1,5 @@
 -- Code that plays what a source does is sound in every run, and its runs are the source's.
-use Rattle.std.proofs.Common.{◌≡◌, ℕ, List, ◌∷◌, Bool, true, false, Option, Some, refl, sym, ◌∙◌, ap, subst, slice_get, length}
+use Rattle.std.proofs.Common.{◌≡◌, ℕ, List, Bool, true, false, Option, Some, refl, sym, ◌∙◌, ap, subst, slice_get, length}
 use Rattle.std.proofs.lemmas.Option.{none-some}
 use Rattle.chord_base.specs.declared.value.Object.{Object}
 use Rattle.chord_base.specs.declared.value.Value.{Value}
@@ -32,7 +32,6 @@ use Rattle.chord_source.specs.TypedRuns.{FitsMethod}
 use Rattle.chord_source.proofs.Firings.{tells_kind, firing_fits, chords_right}
 use Rattle.chord_source.proofs.GoodObjects.{as_many_values}
 use Rattle.chord_source.proofs.GoodPlays.{good_plays}
-use Rattle.chord_source.proofs.TypedRuns.{as_due_type}
 
 -- code whose bodies play good plays of a source agrees in its runs with the meaning that tells these plays' asks
 agrees_in_runs : (code : Parts) → IsForward code → (limits : Limits) (sig : Signatures) (src : Start → ℕ → Play) (fits : Start → Option StaticType → Type 0) → AreLocal code limits sig src fits → IsPlan code limits sig src fits
@@ -80,8 +79,7 @@ module _ (sig : Signatures) (p : Resolved) (typed : AreWellTyped sig p) (plan : 
   is_plan = record {
     main = refl;
     fired = λ h n k o ms vs below all f.
-        let r = firing_fits sig p plan (code_program code limits) (is.chords limits) (is.is_sync limits) h all.messages o n k ms vs below f in
-        (r.0, r.1, as_due_type (code_program code limits) sig (record { number = n; body = n; what = Fired k o ms vs } ∷ h) n r.0 r.2);
+        firing_fits sig p plan (code_program code limits) (is.chords limits) (is.is_sync limits) h all.messages o n k ms vs below f;
   }
 
   -- after each run each message has its arguments, and each body does what is left of its play

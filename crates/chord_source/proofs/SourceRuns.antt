@@ -26,18 +26,18 @@ use Rattle.chord_base.proofs.Waits.{either}
 use Rattle.chord_bodies.specs.Planned.{IsPlanned}
 use Rattle.chord_bodies.specs.Resolved.{Resolved}
 use Rattle.chord_code.specs.Plays.{Play, MakesObject, SendsMessage, CallsMethod, PrintsLine, EndsBody, GoesWrong, EndFits, Good, ask_of, left_after, left_of, what_of}
-use Rattle.chord_code.specs.Runs.{IsFitMessage, sent}
-use Rattle.chord_code.proofs.AllGood.{message_fits, own_entry, sent_more}
+use Rattle.chord_code.specs.Runs.{IsFitMessage, IsResultType, sent}
+use Rattle.chord_code.proofs.AllGood.{message_fits, own_entry, result_more, sent_more}
 use Rattle.chord_code.proofs.Plays.{good_left}
 use Rattle.chord_code.proofs.Runs.{due_is, ended_kind, left_more}
 use Rattle.chord_source.specs.Laws.{AreWellTyped, MachinesAreSound, StartFits}
 use Rattle.chord_source.specs.Source.{play_of, source_program}
-use Rattle.chord_source.specs.TypedRuns.{IsResultType, KeepsTypes, PlaysWell, RunsKeepTypes, RunsPlayWell, begins_as}
+use Rattle.chord_source.specs.TypedRuns.{KeepsTypes, PlaysWell, RunsKeepTypes, RunsPlayWell, begins_as}
 use Rattle.chord_source.proofs.Callers.{in_reversed}
 use Rattle.chord_source.proofs.Ends.{each_ends}
 use Rattle.chord_source.proofs.Firings.{chords_right, firing_fits, tells_kind}
 use Rattle.chord_source.proofs.GoodPlays.{good_plays}
-use Rattle.chord_source.proofs.TypedRuns.{BeginsWell, EntryFits, as_due_type, fits_later, play_fits, result_more}
+use Rattle.chord_source.proofs.TypedRuns.{BeginsWell, EntryFits, fits_later, play_fits}
 
 -- what a play's ask says is what the play says
 ask_says : (limits : Limits) (p : Play) → option_map (λ (a : Asked). a.what) (ask_of limits p) ≡ what_of p
@@ -168,7 +168,7 @@ module _ (limits : Limits) (sig : Signatures) (program : Program) (src : Start �
   end_fits h b (Traps t) l q m p d k e s f fit w = answer_fits sig 0 t (Called m.object m.method m.arguments) p w (λ x z. cc)
   end_fits h b (Gives v) l q m p (Ready st dp rs) k e s f fit w =
       let i = playing_asks h b st dp rs (Ended (Gives v)) l k e in
-      let is : k.kind ≡ fit.method.result = due_is program sig h b q k.kind m fit.method (as_due_type program sig h b k.kind k.due) s f fit.found in
+      let is : k.kind ≡ fit.method.result = due_is program sig h b q k.kind m fit.method k.due s f fit.found in
       value_fits sig v (Called m.object m.method m.arguments) p w (fit.method, fit.found, subst (λ z. Has sig z v) is (ended_kind sig k.kind k.play v k.good i))
   end_fits h b (Gives v) l q m p (Waits st dp rs c pl) k e s f fit w = absurd (none-some _ e)
   end_fits h b (Gives v) l q m p (Over y) k e s f fit w = absurd (none-some _ e)

@@ -1,6 +1,5 @@
 -- What an entry says keeps to types, and does so after each later entry.
-use Rattle.std.proofs.Common.{◌≡◌, ℕ, ◌<◌, length, inl, inr, true, false, ◌==◌, List, ◌∷◌, Option, Some, subst, arith}
-use Rattle.std.proofs.lemmas.Bool.{ne_eqb}
+use Rattle.std.proofs.Common.{◌≡◌, ℕ, ◌<◌, length, true, false, List, ◌∷◌, Option, Some, subst, arith}
 use Rattle.std.proofs.lemmas.Option.{same_Some}
 use Rattle.chord_base.specs.declared.event.End.TheVariants.{Gives, Traps}
 use Rattle.chord_base.specs.declared.event.Entry.{Entry}
@@ -11,27 +10,9 @@ use Rattle.chord_base.specs.Story.{AllBelow}
 use Rattle.chord_base.specs.declared.static_type.StaticType.{StaticType}
 use Rattle.chord_base.specs.Types.{Has, Signatures}
 use Rattle.chord_code.specs.Plays.{Play, MakesObject, SendsMessage, CallsMethod, PrintsLine, EndsBody, GoesWrong, Good, what_of}
-use Rattle.chord_code.specs.Runs.{IsDueType}
-use Rattle.chord_code.proofs.AllGood.{sent_more}
-use Rattle.chord_source.specs.TypedRuns.{FitsMethod, IsResultType}
-
--- the result type of a body is the type that is due of it
-pub as_due_type : (program : Program) (sig : Signatures) (h : List Entry) (b : ℕ) (r : Option StaticType) → IsResultType program sig h b r → IsDueType program sig h b r
-as_due_type program sig h b r is = elim is [ inl none ↦ inl none.0 | inr s ↦ inr (s.1.call, s.1.message, s.0, s.1.serves_call, s.1.is_message, s.1.found, s.2) ]
-
--- the result type of a body stays after one more entry
-pub result_more : (program : Program) (sig : Signatures) (e : Entry) (h : List Entry) (b : ℕ) (r : Option StaticType) → AllBelow e.number h → b < e.number → IsResultType program sig h b r → IsResultType program sig (e ∷ h) b r
-result_more program sig e h b r a l is =
-    let o : (e.number == b) ≡ false = ne_eqb e.number b (λ i. omega (arith, i, l)) in
-    elim is [
-      | inl none ↦ inl (rw o none.0, none.1)
-      | inr s ↦
-          inr (
-            s.0,
-            record { call = s.1.call; message = s.1.message; serves_call = rw o s.1.serves_call; is_message = sent_more e s.1.call s.1.message h a s.1.is_message; found = s.1.found },
-            s.2,
-          )
-    ]
+use Rattle.chord_code.specs.Runs.{IsResultType}
+use Rattle.chord_code.proofs.AllGood.{result_more}
+use Rattle.chord_source.specs.TypedRuns.{FitsMethod}
 
 -- a body begins so, as it may, and is to give what is its result type
 abbrev pub BeginsWell : (Start → Option StaticType → Type 0) → Program → Signatures → List Entry → ℕ → Start → Type 0

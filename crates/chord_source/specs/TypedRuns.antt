@@ -1,9 +1,7 @@
 -- What a run says of types: each message fits its method, each body begins as it may, and a value that a body gives has its result type. A journal has its oldest entry first.
-use Rattle.std.specs.Prelude.{◌≡◌, ◌⊎◌, ℕ, List, reverse, Bool, false, true, Option, Some, None}
-use Rattle.chord_base.specs.Bodies.{serves}
+use Rattle.std.specs.Prelude.{◌≡◌, ℕ, List, reverse, Bool, false, true, Option, Some, None}
 use Rattle.chord_base.specs.Machine.{IsRun}
 use Rattle.chord_base.specs.Meaning.{Program, Start, Main, Chord}
-use Rattle.chord_base.specs.Messages.{Message}
 use Rattle.chord_base.specs.Story.{IsIn}
 use Rattle.chord_base.specs.Types.{Has, HaveAll, Signature, Signatures}
 use Rattle.chord_base.specs.declared.event.End.{End}
@@ -18,7 +16,7 @@ use Rattle.chord_base.specs.declared.value.Value.{Value}
 use Rattle.chord_bodies.specs.Planned.{IsPlanned}
 use Rattle.chord_bodies.specs.Resolved.{Resolved}
 use Rattle.chord_code.specs.Plays.{Good}
-use Rattle.chord_code.specs.Runs.{sent}
+use Rattle.chord_code.specs.Runs.{IsResultType}
 use Rattle.chord_source.specs.Laws.{AreWellTyped, EndsAfter, StartFits, SupplyFits}
 use Rattle.chord_source.specs.Source.{play_of, source_program}
 
@@ -28,19 +26,6 @@ pub record FitsMethod (sig : Signatures) (is_sync : Bool) (object : Object) (num
   pub found : sig.methods object.class number ≡ Some method
   pub kind : method.is_sync ≡ is_sync
   pub arguments : HaveAll sig method.parameters values
-
--- a body serves a call of this method
-pub record ServesMethod (program : Program) (sig : Signatures) (history : List Entry) (body : ℕ) (method : Signature) : Type 0 where
-  pub call : ℕ
-  pub message : Message
-  pub serves_call : serves program body history ≡ Some call
-  pub is_message : sent call history ≡ Some message
-  pub found : sig.methods message.object.class message.method ≡ Some method
-
--- the result type of a body: that of the method whose call it serves, and none where it serves no call
-abbrev pub IsResultType : Program → Signatures → List Entry → ℕ → Option StaticType → Type 0
-IsResultType program sig history body result =
-    ((serves program body history ≡ None) × (result ≡ None)) ⊎ ((method : Signature) × ServesMethod program sig history body method × (result ≡ method.result))
 
 -- how the body begins that an entry begins: `Main`, or on the object and the arguments of the messages that a firing takes
 abbrev pub begins_as : What → Option Start

@@ -386,7 +386,7 @@ pub record HasMadeRoom (code : Parts) (before after : Task) : Type 0 where
   pub ready : IsReserved code after
   pub stocked : IsStocked code before.limits before.spare before.ended after.spare after.ended
   pub list : KeepsList before.values after.values
-  pub room : vec_len before.below < vec_capacity before.below → after.below ≡ before.below
+  pub callers : HasGrown (vec_len before.below) (vec_capacity before.below) (vec_capacity after.below)
   pub frames : LosesNoFrames before.spare before.ended after.spare after.ended
   pub enclosed : after.enclosed ≡ before.enclosed
 
@@ -416,7 +416,7 @@ pub record SettlesFrames (code : Parts) (before : Task) (w : What) (after : Task
   pub list : KeepsList before.values between.values
   pub kept : KeepsFrames w between after
   pub frames : LosesNoFrames before.spare before.ended between.spare between.ended
-  pub callers : vec_len before.below < vec_capacity before.below → vec_capacity after.below ≡ vec_capacity before.below
+  pub callers : HasGrown (vec_len before.below) (vec_capacity before.below) (vec_capacity after.below)
 
 -- frames for the next body were seen to, and none were lost; a list of values that was there stayed, and the body of that number stayed on top. Then this ask became
 -- an entry, and the frames that were on top are kept, if it is an end; where there was room for one more caller, there is as much as before
@@ -427,4 +427,4 @@ pub record WasStocked (code : Parts) (before : Task) (w : What) (after : Task) :
   pub list : KeepsList before.values between.values
   pub kept : KeepsFrames w between after
   pub frames : LosesNoFrames before.spare before.ended between.spare between.ended
-  pub callers : vec_len before.below < vec_capacity before.below → vec_capacity after.below ≡ vec_capacity before.below
+  pub callers : HasGrown (vec_len before.below) (vec_capacity before.below) (vec_capacity after.below)

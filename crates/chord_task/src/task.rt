@@ -2,13 +2,15 @@
 #![tactic(auto)]
 
 ghost use Rattle.std.specs.Prelude.{◌≡◌, ◌≢◌, ◌+◌, ◌-◌, ◌<◌, ◌≤◌, [], ◌∷◌, ◌++◌, true, false, All, IfOk, OnOk, OnErr, IsOk, IsSomeAnd, IsTrue, ◌↔◌, Some, None, length, slice_get, is_none, vec_len, vec_capacity, Box};
+ghost use Rattle.chord_base.specs.Copies.{IsAlwaysCopied};
 ghost use Rattle.chord_base.specs.declared.event.Limits.{Limits as TheLimits};
 ghost use Rattle.chord_base.specs.declared.event.What.{What as AWhat};
 ghost use Rattle.chord_base.specs.Printed.{is_end};
+ghost use Rattle.chord_base.specs.Room.{HasGrown};
 ghost use Rattle.chord_code.specs.declared.parts.Parts.{Parts};
 ghost use Rattle.chord_code.specs.Meaning.{code_program, chord_lines};
 ghost use Rattle.chord_vm.specs.declared.frames.Frames.{Frames as TheFrames};
-ghost use Rattle.chord_vm.specs.Frames.{AreBlank, IsAlwaysCopied, laid, what_of_ask};
+ghost use Rattle.chord_vm.specs.Frames.{AreBlank, laid, what_of_ask};
 ghost use Rattle.chord_task.specs.declared.body.Body.{Body as ABody};
 ghost use Rattle.chord_task.specs.Arguments.{for_entry, AreTwice, MayBeList, IsList, HasOneAtMost};
 ghost use Rattle.chord_task.specs.Past.{AddsOne};
@@ -23,6 +25,7 @@ use crate::past::{Past, append};
 use chord_base::event::{End, Entry, Limits, What};
 use chord_base::hand::Hand;
 use chord_base::members::Members;
+use chord_base::room::reserve_one;
 use chord_base::value::{Object, Value, Values};
 use chord_code::code::Code;
 use chord_code::parts::ChordLine;
@@ -166,21 +169,6 @@ fn reserve_spare(
     }
 }
 
-/// Sees to room for one more item. As a rule there is some, and then nothing is called.
-#[inline(always)]
-fn reserve_one<T>(list: &mut Vec<T>) -> Result<(), AllocError>
-    ensures items { list.new.items ≡ list.old.items }
-    ensures room { OnOk result (vec_len list.new < vec_capacity list.new) }
-    ensures stays { vec_len list.old < vec_capacity list.old → list.new ≡ list.old }
-    ensures short { vec_len list.old < vec_capacity list.old → IsOk result }
-{
-    if list.len() < list.capacity() {
-        return Ok(());
-    }
-    list.reserve(1)?;
-    Ok(())
-}
-
 /// Sees to a list in stock.
 #[inline(always)]
 fn reserve_values(alloc: Global, values: &mut Option<Vec<Value>>) -> Result<(), AllocError>
@@ -312,7 +300,7 @@ fn begun(list: &mut Vec<Entry>) -> Result<Past, AllocError>
     ensures listed { OnOk result (list.new.items ≡ list.old.items ++ record { number = 0; body = 0; what = What.Begun } ∷ []) }
     ensures kept { OnErr result (list.new.items ≡ list.old.items) }
 {
-    list.reserve(1)?;
+    reserve_one(list)?;
     let mut past = Past::none();
     append(
         &mut past,
@@ -444,6 +432,7 @@ impl Task {
         ensures stocked { OnOk result (IsStocked code.now self.old.limits self.old.spare self.old.ended self.new.spare self.new.ended) }
         ensures kept { LosesNothing code.now self.old self.new }
         ensures entries { vec_len list.old < vec_capacity list.old → list.new ≡ list.old }
+        ensures grown { OnOk result ((HasGrown (vec_len self.old.below) (vec_capacity self.old.below) (vec_capacity self.new.below)) × HasGrown (vec_len list.old) (vec_capacity list.old) (vec_capacity list.new)) }
     {
         self.take_room(alloc, code, list)
     }
@@ -473,6 +462,7 @@ impl Task {
         ensures list { KeepsList self.old.values self.new.values }
         ensures enclosed { self.new.enclosed ≡ self.old.enclosed }
         ensures entries { vec_len list.old < vec_capacity list.old → list.new ≡ list.old }
+        ensures grown { OnOk result ((HasGrown (vec_len self.old.below) (vec_capacity self.old.below) (vec_capacity self.new.below)) × HasGrown (vec_len list.old) (vec_capacity list.old) (vec_capacity list.new)) }
     {
         reserve_one(list)?;
         reserve_one(&mut self.below)?;

@@ -285,7 +285,7 @@ impl Task {
         requires may { MayTurn (code_program code.now limits.now) (view_of self.old) number }
         ensures turned { IfOk result (λ sent. HasTurned code.now limits.now self.old self.new number sent) }
         ensures listed { OnOk result (AddsOne self.old.past self.new.past list.old.items list.new.items) }
-        ensures entries { OnOk result (vec_len list.old < vec_capacity list.old → vec_capacity list.new ≡ vec_capacity list.old) }
+        ensures entries { OnOk result (HasGrown (vec_len list.old) (vec_capacity list.old) (vec_capacity list.new)) }
     {
         if self.runs() {
             return self.run_turn(alloc, code, limits, number, list);
@@ -337,7 +337,7 @@ impl Task {
         requires may { MayTurn (code_program code.now limits.now) (view_of self.old) number }
         ensures turned { IfOk result (λ sent. HasTurned code.now limits.now self.old self.new number sent) }
         ensures listed { OnOk result (AddsOne self.old.past self.new.past list.old.items list.new.items) }
-        ensures entries { OnOk result (vec_len list.old < vec_capacity list.old → vec_capacity list.new ≡ vec_capacity list.old) }
+        ensures entries { OnOk result (HasGrown (vec_len list.old) (vec_capacity list.old) (vec_capacity list.new)) }
     {
         self.prepare(alloc, code, limits)?;
         self.reserve(alloc, code, list)?;
@@ -360,7 +360,7 @@ impl Task {
         requires may { MayTurn (code_program code.now limits.now) (view_of self.old) number }
         ensures turned { IfOk result (λ sent. HasTurned code.now limits.now self.old self.new number sent) }
         ensures listed { OnOk result (AddsOne self.old.past self.new.past list.old.items list.new.items) }
-        ensures entries { OnOk result (vec_len list.old < vec_capacity list.old → vec_capacity list.new ≡ vec_capacity list.old) }
+        ensures entries { OnOk result (HasGrown (vec_len list.old) (vec_capacity list.old) (vec_capacity list.new)) }
     {
         match &mut self.top {
             None => unreachable!(),
@@ -398,6 +398,7 @@ impl Task {
         ensures listed { list.new.items ≡ list.old.items }
         ensures kept { LosesNothing code.now self.old self.new }
         ensures entries { vec_len list.old < vec_capacity list.old → list.new ≡ list.old }
+        ensures grown { OnOk result (HasGrown (vec_len list.old) (vec_capacity list.old) (vec_capacity list.new)) }
     {
         self.take_room(alloc, code, list)?;
         copy_text(alloc, asked, second)

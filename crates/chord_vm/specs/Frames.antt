@@ -7,7 +7,6 @@ use Rattle.chord_vm.specs.declared.ask.Ask.TheVariants as ask
 use Rattle.chord_vm.specs.declared.step.After.{After}
 use Rattle.chord_vm.specs.declared.step.After.TheVariants as steps
 use Rattle.chord_base.specs.declared.value.Value.{Value}
-use Rattle.chord_base.specs.declared.value.Value.TheVariants as a_value
 use Rattle.chord_base.specs.declared.operation.Operation.{Operation}
 use Rattle.chord_base.specs.declared.operation.Operation.TheVariants as ops
 use Rattle.chord_base.specs.declared.event.What.{What}
@@ -104,14 +103,6 @@ abbrev pub laid : List (List Value) → List Value
 laid [] = []
 laid (xs ∷ rest) = xs ++ laid rest
 
--- a copy of the value never fails: it is no text, or one of at most eight bytes (that of a longer text takes no memory either, and fails where the text has too many owners)
-abbrev pub IsAlwaysCopied : Value → Type 0
-IsAlwaysCopied a_value.Unit = Unit {0}
-IsAlwaysCopied (a_value.Int i) = Unit {0}
-IsAlwaysCopied (a_value.Flag b) = Unit {0}
-IsAlwaysCopied (a_value.Text bytes) = length bytes ≤ 8
-IsAlwaysCopied (a_value.Ref o) = Unit {0}
-
 -- the slots have room for this block's
 abbrev pub IsSpacious : Frames → Option Block → Type 0
 IsSpacious f None = ⊥
@@ -129,6 +120,11 @@ AreBlank code f = IsMostSlots code.blocks (vec_capacity f.top.slots) × (f.top.s
 abbrev pub HasRoom : Option declared_frame.Frame → ℕ → Type 0
 HasRoom None n = ⊥
 HasRoom (Some f) n = n ≤ vec_capacity f.slots
+
+-- the frame of a block that is done is in stock: it holds nothing, and has the room that it had
+abbrev pub IsInStock : declared_frame.Frame → Option declared_frame.Frame → Type 0
+IsInStock f None = ⊥
+IsInStock f (Some f') = (f'.stack.items ≡ []) × (f'.slots.items ≡ []) × (vec_capacity f'.stack ≡ vec_capacity f.stack) × (vec_capacity f'.slots ≡ vec_capacity f.slots)
 
 -- there is room for the answer that is waited for
 abbrev pub IsReady : Awaited → Frames → Type 0

@@ -1,13 +1,16 @@
 //! The frames of one body: its blocks at work, and how they begin and are answered without memory.
 #![tactic(auto)]
 
-ghost use Rattle.std.specs.Prelude.{◌≡◌, ◌≢◌, suc, ◌+◌, ◌-◌, ◌*◌, ◌^◌, ◌<◌, ◌≤◌, true, false, List, [], ◌∷◌, ◌++◌, IfOk, IsOk, OnOk, All, Some, None, length, slice_get, vec_len, vec_capacity, reverse, replicate};
+ghost use Rattle.std.specs.Prelude.{◌≡◌, ◌≢◌, suc, ◌+◌, ◌-◌, ◌^◌, ◌<◌, ◌≤◌, true, false, List, [], ◌∷◌, ◌++◌, IfOk, IsOk, OnOk, All, Some, None, length, slice_get, vec_len, vec_capacity, reverse, replicate};
+ghost use Rattle.chord_base.specs.Copies.{IsAlwaysCopied};
+ghost use Rattle.chord_base.specs.Room.{HasGrown};
 ghost use Rattle.chord_code.specs.Slots.{first_slots};
-ghost use Rattle.chord_code.specs.Machine.{body_in_block, with_answer, with_object, pops};
-ghost use Rattle.chord_vm.specs.Frames.{shown_frame, machine_of, frame_with, IsAlwaysCopied, IsSpacious, IsReady, HasRoom, KeepsRoom, IsMoved, IsRoomFor, AreBlank, laid};
+ghost use Rattle.chord_code.specs.Machine.{body_in_block, with_answer, with_object, init_by, goes_back, pops, Bad, Goes};
+ghost use Rattle.chord_vm.specs.Frames.{shown_frame, machine_of, frame_with, IsSpacious, IsReady, HasRoom, KeepsRoom, IsInStock, IsMoved, IsRoomFor, AreBlank, laid};
 
 use chord_base::event::Limits;
 use chord_base::hand::Hand;
+use chord_base::room::reserve_one;
 use chord_base::value::{Object, Value, Values};
 use chord_code::awaited::Awaited;
 use chord_code::code::Code;
@@ -100,25 +103,14 @@ pub(crate) fn push_reserved(frame: &mut Frame, value: Value)
     frame.place += 1;
 }
 
-/// Takes room for one more item. A list that is full gets twice its room, so that what it takes to grow stays in proportion to its length.
-#[inline(always)]
-fn double<T>(list: &mut Vec<T>) -> Result<(), AllocError>
-    ensures items { list.new.items ≡ list.old.items }
-    ensures room { OnOk result (vec_len list.new < vec_capacity list.new) }
-    ensures doubles { OnOk result (vec_len list.old ≡ vec_capacity list.old → 2 * vec_capacity list.old ≤ vec_capacity list.new) }
-{
-    list.reserve(list.len().max(1))?;
-    Ok(())
-}
-
-/// Takes room for one more operand.
+/// Takes room for more operands, where there is none for one more. It stands apart, since there is room as a rule.
 #[inline(never)]
 fn grow(frame: &mut Frame) -> Result<(), AllocError>
     ensures same { shown_frame frame.new ≡ shown_frame frame.old }
     ensures room { OnOk result (vec_len frame.new.stack < vec_capacity frame.new.stack) }
-    ensures doubles { OnOk result (vec_len frame.old.stack ≡ vec_capacity frame.old.stack → 2 * vec_capacity frame.old.stack ≤ vec_capacity frame.new.stack) }
+    ensures grown { OnOk result (HasGrown (vec_len frame.old.stack) (vec_capacity frame.old.stack) (vec_capacity frame.new.stack)) }
 {
-    double(&mut frame.stack)
+    reserve_one(&mut frame.stack)
 }
 
 /// Pushes a value, and goes to the next instruction. Where there is room for it, no memory is taken.
@@ -127,7 +119,7 @@ pub(crate) fn push(frame: &mut Frame, value: Value) -> Result<(), AllocError>
     requires { frame.old.place + 1 < 2 ^ 64 }
     ensures pushed { OnOk result (shown_frame frame.new ≡ frame_with (shown_frame frame.old) (suc frame.old.place) (value ∷ (shown_frame frame.old).stack) (shown_frame frame.old).slots) }
     ensures stays { vec_len frame.old.stack < vec_capacity frame.old.stack → (IsOk result) × (vec_capacity frame.new.stack ≡ vec_capacity frame.old.stack) }
-    ensures doubles { OnOk result (vec_len frame.old.stack ≡ vec_capacity frame.old.stack → 2 * vec_capacity frame.old.stack ≤ vec_capacity frame.new.stack) }
+    ensures grown { OnOk result (HasGrown (vec_len frame.old.stack) (vec_capacity frame.old.stack) (vec_capacity frame.new.stack)) }
 {
     if frame.stack.len() == frame.stack.capacity() {
         grow(frame)?;
@@ -239,8 +231,7 @@ fn lay_copy(alloc: Global, slots: &mut Vec<Value>, value: &Value) -> Result<(), 
     }
 }
 
-/// Adds a copy of a value that may be a text. What is no text is copied always, and so is a text of up to 8 bytes; the copy of a longer one
-/// fails where the text has too many owners. `Value::copied` makes the same copy, and does not say when it succeeds.
+/// Adds a copy of a value that may be a text.
 #[inline(never)]
 fn lay_other(alloc: Global, slots: &mut Vec<Value>, value: &Value) -> Result<(), AllocError>
     requires { vec_len slots.old < vec_capacity slots.old }
@@ -249,13 +240,7 @@ fn lay_other(alloc: Global, slots: &mut Vec<Value>, value: &Value) -> Result<(),
     ensures capacity { vec_capacity slots.new ≡ vec_capacity slots.old }
     ensures short { IsAlwaysCopied value.now → IsOk result }
 {
-    let copy = match value {
-        Value::Unit => Value::Unit,
-        Value::Int(number) => Value::Int(*number),
-        Value::Flag(flag) => Value::Flag(*flag),
-        Value::Text(text) => Value::Text(text.copied(alloc)?),
-        Value::Ref(object) => Value::Ref(*object),
-    };
+    let copy = value.copied(alloc)?;
     slots.push_reserved(copy);
     Ok(())
 }
@@ -379,11 +364,9 @@ pub fn reserve(alloc: Global, frames: &mut Frames) -> Result<(), AllocError>
     ensures ready { OnOk result (IsReady frames.new.awaited frames.new) }
     ensures kept { KeepsRoom frames.old frames.new }
     ensures idle { vec_len frames.old.top.stack < vec_capacity frames.old.top.stack → IsReady frames.old.awaited frames.old → (IsOk result) × (frames.new ≡ frames.old) }
-    ensures doubles { OnOk result (vec_len frames.old.top.stack ≡ vec_capacity frames.old.top.stack → 2 * vec_capacity frames.old.top.stack ≤ vec_capacity frames.new.top.stack) }
+    ensures grown { OnOk result (HasGrown (vec_len frames.old.top.stack) (vec_capacity frames.old.top.stack) (vec_capacity frames.new.top.stack)) }
 {
-    if frames.top.stack.len() == frames.top.stack.capacity() {
-        double(&mut frames.top.stack)?;
-    }
+    reserve_one(&mut frames.top.stack)?;
     match frames.awaited {
         Awaited::ForObject(Some((_, slots)), _) => reserve_builder(alloc, frames, slots),
         _ => Ok(()),
@@ -404,19 +387,16 @@ fn has_builder(builder: &Option<Frame>, slots: u32) -> bool
 /// Takes the room for a builder with so many slots, where there is none yet.
 #[inline(never)]
 fn reserve_builder(alloc: Global, frames: &mut Frames, slots: u32) -> Result<(), AllocError>
-    requires stack { vec_len frames.old.top.stack < vec_capacity frames.old.top.stack }
     ensures same { (machine_of frames.new ≡ machine_of frames.old) × (frames.new.awaited ≡ frames.old.awaited) }
-    ensures ready { OnOk result ((vec_len frames.new.top.stack < vec_capacity frames.new.top.stack) × (vec_len frames.new.below < vec_capacity frames.new.below) × HasRoom frames.new.builder slots) }
+    ensures ready { OnOk result ((vec_len frames.new.below < vec_capacity frames.new.below) × HasRoom frames.new.builder slots) }
     ensures top { frames.new.top ≡ frames.old.top }
     ensures stays { vec_len frames.old.below < vec_capacity frames.old.below → frames.new.below ≡ frames.old.below }
     ensures builder { HasRoom frames.old.builder slots → frames.new.builder ≡ frames.old.builder }
     ensures idle { vec_len frames.old.below < vec_capacity frames.old.below → HasRoom frames.old.builder slots → (IsOk result) × (frames.new ≡ frames.old) }
-    ensures doubles { OnOk result (vec_len frames.old.below ≡ vec_capacity frames.old.below → 2 * vec_capacity frames.old.below ≤ vec_capacity frames.new.below) }
+    ensures grown { OnOk result (HasGrown (vec_len frames.old.below) (vec_capacity frames.old.below) (vec_capacity frames.new.below)) }
     ensures limits { frames.new.limits ≡ frames.old.limits }
 {
-    if frames.below.len() == frames.below.capacity() {
-        double(&mut frames.below)?;
-    }
+    reserve_one(&mut frames.below)?;
     if has_builder(&frames.builder, slots) {
         return Ok(());
     }
@@ -479,14 +459,70 @@ fn build(frames: &mut Frames, block: u32, slots: u32, n: u32, object: Object)
                 arguments,
             );
             frames.top.stack.push_reserved(Value::Ref(object));
-            fresh.stack.truncate(0);
-            fresh.block = block as usize;
-            fresh.place = 0;
-            fresh.room = frames.top.room.saturating_sub(1);
-            let old = mem::replace(&mut frames.top, fresh);
-            frames.below.push_reserved(old);
+            let room = frames.top.room.saturating_sub(1);
+            interrupt(frames, fresh, block as usize, room);
         }
     }
+}
+
+/// A builder's block begins on `this` alone, above the block at work, which goes to its next instruction. No memory is taken where there is room for it.
+#[inline(never)]
+pub(crate) fn enter(
+    alloc: Global,
+    frames: &mut Frames,
+    block: u32,
+    slots: u32,
+    this: Value,
+) -> Result<(), AllocError>
+    requires fits { frames.old.top.place + 1 < 2 ^ 64 }
+    requires sound { init_by (machine_of frames.old) (Some this) (Some (Some (block, slots))) ≢ Bad }
+    ensures entered { OnOk result (init_by (machine_of frames.old) (Some this) (Some (Some (block, slots))) ≡ Goes (machine_of frames.new)) }
+    ensures idle { vec_len frames.old.below < vec_capacity frames.old.below → HasRoom frames.old.builder slots → IsOk result }
+{
+    reserve_builder(alloc, frames, slots)?;
+    match frames.builder.take() {
+        None => unreachable!(),
+        Some(mut fresh) => {
+            fill(
+                &mut fresh.slots,
+                slots as usize,
+                this,
+                &mut Vec::new(alloc),
+                0,
+            );
+            frames.top.place += 1;
+            let room = frames.top.room;
+            interrupt(frames, fresh, block as usize, room);
+        }
+    }
+    Ok(())
+}
+
+/// A block whose slots are filled comes to work above the block at work, which waits for it.
+fn interrupt(frames: &mut Frames, fresh: Frame, block: usize, room: usize)
+    requires { vec_len frames.old.below < vec_capacity frames.old.below }
+    ensures { machine_of frames.new ≡ record { top = record { block = block; place = 0; room = room; stack = []; slots = fresh.slots.items }; below = (machine_of frames.old).top ∷ (machine_of frames.old).below; turns = frames.old.turns } }
+{
+    let mut fresh = fresh;
+    fresh.stack.truncate(0);
+    fresh.block = block;
+    fresh.place = 0;
+    fresh.room = room;
+    let old = mem::replace(&mut frames.top, fresh);
+    frames.below.push_reserved(old);
+}
+
+/// The builder at work is done, and the block below goes on. The builder's frame stays in stock, empty, for the next one.
+#[inline(never)]
+pub(crate) fn back(frames: &mut Frames)
+    requires sound { goes_back (machine_of frames.old) (machine_of frames.old).below ≢ Bad }
+    ensures resumed { goes_back (machine_of frames.old) (machine_of frames.old).below ≡ Goes (machine_of frames.new) }
+    ensures stocked { IsInStock frames.old.top frames.new.builder }
+{
+    let mut done = mem::replace(&mut frames.top, frames.below.take_last());
+    done.stack.truncate(0);
+    done.slots.truncate(0);
+    frames.builder = Some(done);
 }
 
 /// Fills the slots of a block with `this` and the values, which are moved, and the rest with the unit value.

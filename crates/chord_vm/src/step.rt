@@ -5,13 +5,13 @@ ghost use Rattle.std.specs.Prelude.{◌≡◌, ◌≢◌, ◌⊎◌, suc, ◌+�
 ghost use Rattle.chord_base.specs.Operators.{text_of};
 ghost use Rattle.chord_code.specs.Valid.{IsValid};
 ghost use Rattle.chord_code.specs.Within.{IsInstructionWithin};
-ghost use Rattle.chord_code.specs.Machine.{Did, Goes, step as step_of, Bad, act, operate as operate_of, negates, denies, skips, again as again_of, if_deeper, makes_object, builder_of, init_by, fetch, ComesToAsk, loads, store_top, pops, pop_top, goes_back, send_by, call_by, print_top, end_with};
+ghost use Rattle.chord_code.specs.Machine.{Did, Goes, step as step_of, Bad, act, operate as operate_of, negates, denies, skips, again as again_of, if_deeper, makes_object, builder_of, init_by, fetch, ComesToAsk, loads, store_top, pops, pop_top, send_by, call_by, print_top, end_with};
 ghost use Rattle.chord_vm.specs.Frames.{shown_frame, machine_of, HasStepped, frame_with, Advanced, changes_block, instructions_in, with_pushed};
 ghost use Rattle.chord_vm.specs.declared.frames.Frames.{Frames as TheFrames};
 ghost use Rattle.chord_vm.specs.declared.ask.Ask.{Ask as AnAsk};
 
 use crate::ask::{Ask, clear_ask, put_ask};
-use crate::frames::{Frame, Frames, fill, move_last, push, push_reserved, take};
+use crate::frames::{Frames, back, enter, move_last, push, push_reserved, take};
 use crate::fused::{AtOnce, load_at_once, stores_at_once};
 use crate::numbers::{operate_on, operator_of, put_value};
 use chord_base::event::{End, Limits, Trap};
@@ -181,15 +181,6 @@ fn drop_top(frames: &mut Frames)
 {
     let _ = take(&mut frames.top);
     frames.top.place += 1;
-}
-
-/// `back`: the builder at work is done.
-#[inline(never)]
-fn back(frames: &mut Frames)
-    requires sound { goes_back (machine_of frames.old) (machine_of frames.old).below ≢ Bad }
-    ensures { goes_back (machine_of frames.old) (machine_of frames.old).below ≡ Goes (machine_of frames.new) }
-{
-    frames.top = frames.below.take_last();
 }
 
 /// `int` and `flag`.
@@ -543,39 +534,12 @@ fn init(alloc: Global, parts: &Parts, frames: &mut Frames, class: u16) -> Result
             match parts.classes.items()[class as usize].builder {
                 None => unreachable!(),
                 Some(block) => {
-                    let slots = parts.blocks.items()[block as usize].slots as usize;
-                    enter(alloc, frames, block as usize, slots, this)
+                    let slots = parts.blocks.items()[block as usize].slots;
+                    enter(alloc, frames, block, slots, this)
                 }
             }
         }
     }
-}
-
-/// A builder's block begins on `this` alone, above the block at work.
-fn enter(
-    alloc: Global,
-    frames: &mut Frames,
-    block: usize,
-    slots: usize,
-    this: Value,
-) -> Result<(), AllocError>
-    requires fits { frames.old.top.place + 1 < 2 ^ 64 }
-    requires sound { init_by (machine_of frames.old) (Some this) (Some (Some (block, slots))) ≢ Bad }
-    ensures { OnOk result (init_by (machine_of frames.old) (Some this) (Some (Some (block, slots))) ≡ Goes (machine_of frames.new)) }
-{
-    let mut values = Vec::with_capacity(alloc, slots)?;
-    fill(&mut values, slots, this, &mut Vec::new(alloc), 0);
-    let fresh = Frame {
-        block,
-        place: 0,
-        room: frames.top.room,
-        stack: Vec::new(alloc),
-        slots: values,
-    };
-    frames.top.place += 1;
-    let old = mem::replace(&mut frames.top, fresh);
-    frames.below.push(old)?;
-    Ok(())
 }
 
 /// The instructions of the block at work.
