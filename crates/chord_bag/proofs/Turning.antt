@@ -29,7 +29,7 @@ use Rattle.chord_bag.specs.declared.walk.Sought.TheVariants.{Found, Bare, Busy}
 use Rattle.chord_bag.specs.declared.walk.Turn.{Turn}
 use Rattle.chord_bag.specs.declared.walk.Turn.TheVariants.{Over, On, Past}
 use Rattle.chord_bag.specs.Reads.{AllAt, AllRead, HasRead, KeepsEnds, IsOnlyLooks, with_looks, is_claimed, is_passed, after_cell, messages_and_bags}
-use Rattle.chord_bag.specs.Seeking.{IsSought, IsReadUnconsumed, IsTidy, BeganAtHead, newest_linked, newest_looks}
+use Rattle.chord_bag.specs.Seeking.{IsSought, IsReadUnconsumed, IsTidy, KeepsHeads, BeganAtHead, newest_linked, newest_looks}
 use Rattle.chord_bag.specs.Walking.{Going, IsGoing, IsTurn, PassesConsumed, IsAtHead, ComesToTurn, gone_so_far}
 use Rattle.chord_bag.proofs.Walks.{all_start, all_move, head_keeps, cell_keeps, keeps_on, head_keeps_messages, cell_keeps_messages}
 
@@ -278,6 +278,18 @@ tidy_behind k n i busy place false u w t turn at is unconsumed tidy = let r = tu
 pub tidy_at_end : (k : ℕ) (v : View) (at_head : Bool) (place : Option ℕ) → place ≡ None → IsAtHead k v place at_head → IsTidy k v
 tidy_at_end k v true place is last = (None, subst (λ (x : Option ℕ). LastHead (head_number k) x v.looked.heads) is last, tt)
 tidy_at_end k v false place is tidy = tidy
+
+-- a look at the head of the bag leaves the other heads
+pub begun_keeps_heads : (k : ℕ) (v w : View) (linked : List ℕ) (head : Option ℕ) → w ≡ looked_head v k linked head → KeepsHeads k v w
+begun_keeps_heads k v w linked head is = λ q h ne last. subst (λ (z : View). LastHead q h z.looked.heads) (sym is) (inr (ne, last))
+
+-- so do looks at cells
+pub still_keeps_heads : (k : ℕ) (v u w : View) → w.looked.heads ≡ u.looked.heads → KeepsHeads k v u → KeepsHeads k v w
+still_keeps_heads k v u w heads kept = λ q h ne last. subst (LastHead q h) (sym heads) (kept q h ne last)
+
+-- and what is read or written of the bag's own head
+pub own_keeps_heads : (k : ℕ) (v u w : View) (head : Option ℕ) → w ≡ saw_head u (head_number k) head → KeepsHeads k v u → KeepsHeads k v w
+own_keeps_heads k v u w head is kept = λ q h ne last. subst (λ (z : View). LastHead q h z.looked.heads) (sym is) (inr (ne, kept q h ne last))
 
 -- a walk that has come to its end
 pub walk_ended : (n k : ℕ) (v w : View) (busy : Option ℕ) → Going n k v w None busy → IsSought n k v w (seek_ended busy)

@@ -68,6 +68,10 @@ IsReadUnconsumed ws i = (c : Cell) × (c ≢ Consumed) × HasRead i c (newest_lo
 abbrev pub IsTidy : ℕ → View → Type 0
 IsTidy k v = (head : Option ℕ) × LastHead (head_number k) head v.looked.heads × IfSome head (IsReadUnconsumed v.looked.ways)
 
+-- what the desk last read or wrote of other heads than that of the bag k, it still last read or wrote there
+abbrev pub KeepsHeads : ℕ → View → View → Type 0
+KeepsHeads k v w = (q : ℕ) (h : Option ℕ) → (q ≡ head_number k → ⊥) → LastHead q h v.looked.heads → LastHead q h w.looked.heads
+
 -- the newest way of the view w began at a moment under the rule, at which the desk had the view v, with a look at the head of the bag k; it knows the messages that had been linked there
 abbrev pub BeganAtHead : {P : Type 0} → (P → List Entry) → (P → List value.Value) → (P → Parts → Limits → Type 0) → Space P → View → View → ℕ → Type 0
 BeganAtHead entries arguments keeps_to space v w k = (head : Option ℕ) × WasHead entries arguments (λ q. keeps_to q (space_code space) (space_limits space)) (program_of space) (space_limits space).events v (head_number k) head (newest_linked w.looked.ways)

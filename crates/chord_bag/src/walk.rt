@@ -6,7 +6,7 @@ ghost use Rattle.chord_rule.specs.Looks.{LastHead};
 ghost use Rattle.chord_rule.specs.Made.{key};
 ghost use Rattle.chord_rule.specs.Ways.{IsAloneDesk, WentPast};
 ghost use Rattle.chord_space.specs.Desks.{view, heads, IsDeskOf, IsSameDesk};
-ghost use Rattle.chord_bag.specs.Seeking.{IsSought, BeganAtHead, IsTidy};
+ghost use Rattle.chord_bag.specs.Seeking.{IsSought, BeganAtHead, IsTidy, KeepsHeads};
 ghost use Rattle.chord_bag.specs.Walking.{IsTurn};
 
 use chord_base::value::Object;
@@ -76,7 +76,7 @@ fn tidy<P: Carry>(
 /// is not armed; a bag's messages are all different, so the walk ends. Consumed messages that it meets at the head leave the bag,
 /// so that no later walk meets them. The one way that it went tells its answer. On a first
 /// desk that has lent none and has nothing in hand it is never Busy, and the bag's head then leads to no consumed message. On a
-/// desk without a claim, what was read claimed is claimed by another.
+/// desk without a claim, what was read claimed is claimed by another. The heads of other bags are left as they were last read.
 ///
 /// The way knows the messages that had been linked in the bag when its head was read. Bare, or Busy with a claimed message, the
 /// way went to the bag's end, and so each of these was looked at on it or is consumed (`chord_space::laws::ways_miss_none`).
@@ -91,6 +91,7 @@ pub fn seek<P: Carry>(space: &Space<P>, desk: &mut Desk<P>, object: Object, meth
     ensures sought { IsSought space.now.events (key object method) (view desk.old) (view desk.new) result }
     ensures began { BeganAtHead P.entries P.arguments P.keeps_to space.now (view desk.old) (view desk.new) (key object method) }
     ensures tidy { IsAloneDesk (view desk.old) → IsTidy (key object method) (view desk.new) }
+    ensures other_heads { KeepsHeads (key object method) (view desk.old) (view desk.new) }
 {
     let mut place = space.look_head(desk, object, method);
     let mut busy = None;

@@ -13,7 +13,6 @@ use Rattle.chord_word.specs.declared.cells.Cell.TheVariants.{Empty, Pending, Cla
 use Rattle.chord_word.specs.declared.cells.Word.{Word}
 use Rattle.chord_rule.specs.declared.view.Duty.{Duty}
 use Rattle.chord_rule.specs.declared.view.View.{View}
-use Rattle.chord_rule.specs.declared.view.Way.{Way}
 use Rattle.chord_rule.specs.Bags.{IsArmed}
 use Rattle.chord_rule.specs.Duties.{HasDuty, MayRest, move_duty}
 use Rattle.chord_rule.specs.Kinds.{is_down, looked_cell}
@@ -21,7 +20,7 @@ use Rattle.chord_rule.specs.Looks.{HasLook}
 use Rattle.chord_rule.specs.Made.{key, bag_keys, IsChord}
 use Rattle.chord_rule.specs.Numbers.{HasNumber}
 use Rattle.chord_rule.specs.Tells.{IsLook}
-use Rattle.chord_rule.specs.Ways.{HasWay, IsAloneDesk, IsSettledCell}
+use Rattle.chord_rule.specs.Ways.{IsAloneDesk, IsSettledCell}
 use Rattle.chord_rule.proofs.KeySteps.{same_key}
 use Rattle.chord_bag.specs.declared.walk.Sought.{Sought}
 use Rattle.chord_bag.specs.declared.walk.Sought.TheVariants as a_sought
@@ -31,10 +30,10 @@ use Rattle.chord_bag.proofs.Walks.{cell_keeps_messages}
 use Rattle.chord_match.specs.declared.search.Own.{Own}
 use Rattle.chord_match.specs.declared.search.Verdict.{Verdict}
 use Rattle.chord_match.specs.declared.search.Verdict.TheVariants as a_verdict
-use Rattle.chord_match.specs.Seen.{bags_of, AreMatched}
+use Rattle.chord_match.specs.Seen.{AreMatched}
 use Rattle.chord_match.specs.Searching.{WasTold, WasToldIf, Searching, IsStuck, KnowsBeside, IsThrough}
 use Rattle.chord_match.specs.Findings.{AreWithinChords, IsLacking, IsHeldUp, IsMatch, IsLeftAnswer, IsHeldBy, read_so}
-use Rattle.chord_match.proofs.Growing.{duty_is_kept, key_cancels}
+use Rattle.chord_match.proofs.Growing.{duty_is_kept, key_cancels, way_has}
 
 -- the own message is the member for its own method
 own_member : (v w : View) (o : Object) (m method : ℕ) (next : Option ℕ) (js ms : List ℕ) (xs : List (Option ℕ)) → AreMatched v w o m method next js ms xs → has method js ≡ true → HasNumber m ms
@@ -115,7 +114,7 @@ beside_none own jss q = inl (all_none 16 q)
 -- m was read pending, and nothing is known of the bags
 pub stands_read : (n : ℕ) (v u : View) (o : Object) (own : Own) → IsLook n v u own.message (record { cell = Pending; next = own.next }) → own.message < n → (d : Duty) × HasDuty d v.duties × (d.message ≡ own.message) × (d.bag ≡ key o own.method) → Searching n u u o own (replicate 16 None)
 stands_read n v u o own look low d = record {
-  sought = record { grows = record { ways = []; looks = []; more_ways = refl; more_seen = refl; only = record { frame = refl; duties = refl } }; once = tt; along = refl };
+  sought = record { grows = record { ways = []; looks = []; more_ways = refl; more_seen = refl; only = record { frame = refl; duties = refl } }; once = tt; along = refl; tidy = λ a x h. absurd h };
   listed = λ k h. let z : false ≡ true = h in absurd (cc);
   read = (record { cell = Pending; next = own.next }, subst (λ (z : View). HasLook own.message (record { cell = Pending; next = own.next }) z.looked.seen) (sym look.looked) (inl (refl, refl)), tt, refl);
   below = low;
@@ -136,12 +135,6 @@ claimed_by_another p n v w m o method next Ready low is armed alone a b d = absu
 claimed_by_another p n v w m o method next Started low is armed alone a b d = absurd armed
 
 -- ## What the verdict says
-
--- the bag of a way is among the bags of all
-way_has : (x : Way) (ws : List Way) → HasWay x ws → has x.bag (bags_of ws) ≡ true
-way_has x [] h = absurd h
-way_has x (w ∷ ws) (inl e) = rw (eq-eqb x.bag w.bag (ap (λ (z : Way). z.bag) e)) refl
-way_has x (w ∷ ws) (inr h) = has_more x.bag w.bag (bags_of ws) (way_has x ws h)
 
 module _ (n : ℕ) (p : Program) (v w : View) (o : Object) (own : Own) (ms : List ℕ) (xs : List (Option ℕ)) where
   -- what a verdict says to the caller

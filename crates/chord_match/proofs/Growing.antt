@@ -1,27 +1,38 @@
 -- What was read and answered stays so while the desk looks on.
-use Rattle.std.proofs.Common.{◌≡◌, inl, inr, ℕ, List, [], ◌∷◌, ◌++◌, append_assoc, refl, sym, ap, ◌∙◌, subst, arith, Option}
+use Rattle.std.proofs.Common.{◌≡◌, ◌≢◌, inl, inr, ℕ, ◌<◌, true, List, [], ◌∷◌, ◌++◌, append_assoc, refl, sym, ap, ◌∙◌, subst, arith, Option, Some, None, IfSome}
+use Rattle.std.proofs.lemmas.Bool.{eq-eqb}
 use Rattle.chord_base.specs.Meaning.{Program}
+use Rattle.chord_base.specs.Messages.{has}
 use Rattle.chord_base.specs.declared.value.Object.{Object}
-use Rattle.chord_word.specs.declared.cells.Cell.TheVariants.{Pending}
+use Rattle.chord_base.proofs.Pending.{has_more}
+use Rattle.chord_word.specs.declared.cells.Cell.{Cell}
+use Rattle.chord_word.specs.declared.cells.Cell.TheVariants.{Pending, Consumed}
 use Rattle.chord_word.specs.declared.cells.Word.{Word}
 use Rattle.chord_rule.specs.declared.view.Duty.{Duty}
 use Rattle.chord_rule.specs.declared.view.Look.{Look}
 use Rattle.chord_rule.specs.declared.view.View.{View}
 use Rattle.chord_rule.specs.declared.view.Way.{Way}
 use Rattle.chord_rule.specs.Duties.{HasDuty}
-use Rattle.chord_rule.specs.Looks.{HasLook, HasSeen}
+use Rattle.chord_rule.specs.Bags.{head_number}
+use Rattle.chord_rule.specs.Looks.{HasLook, HasSeen, LastHead}
 use Rattle.chord_rule.specs.Made.{key}
 use Rattle.chord_rule.specs.Ways.{HasWay, WasRead, KnowsBag, KnowsObject, LastSeen}
 use Rattle.chord_bag.specs.declared.walk.Sought.{Sought}
 use Rattle.chord_bag.specs.declared.walk.Sought.TheVariants.{Found}
-use Rattle.chord_bag.specs.Reads.{with_looks, messages_and_bags}
-use Rattle.chord_bag.specs.Seeking.{IsSought}
-use Rattle.chord_match.specs.Seen.{Grows, Answered, MayBeClaimed, MayAllBeClaimed, AreSeen, IsMember}
+use Rattle.chord_bag.specs.Reads.{HasRead, with_looks, messages_and_bags}
+use Rattle.chord_bag.specs.Seeking.{IsReadUnconsumed, IsSought, IsTidy, KeepsHeads, newest_looks}
+use Rattle.chord_match.specs.Seen.{bags_of, Grows, IsLeftTidy, Answered, MayBeClaimed, MayAllBeClaimed, AreSeen, IsMember}
 
 -- a way that was gone before is still one
 pub has_way_right : (x : Way) (us vs : List Way) → HasWay x vs → HasWay x (us ++ vs)
 has_way_right x [] vs h = h
 has_way_right x (a ∷ us) vs h = inr (has_way_right x us vs h)
+
+-- the bag of a way is among the bags of all
+pub way_has : (x : Way) (ws : List Way) → HasWay x ws → has x.bag (bags_of ws) ≡ true
+way_has x [] h = absurd h
+way_has x (w ∷ ws) (inl e) = rw (eq-eqb x.bag w.bag (ap (λ (z : Way). z.bag) e)) refl
+way_has x (w ∷ ws) (inr h) = has_more x.bag w.bag (bags_of ws) (way_has x ws h)
 
 -- a look that was made before is still one
 pub has_look_right : (i : ℕ) (c : Word) (us vs : List Look) → HasLook i c vs → HasLook i c (us ++ vs)
@@ -113,6 +124,22 @@ module _ (v u w : View) (g : Grows u w) where
 -- two methods of one object have two bags
 pub key_cancels : (o : Object) (i j : ℕ) → key o i ≡ key o j → i ≡ j
 key_cancels o i j e = omega (arith, e)
+
+-- so they have two heads
+pub head_cancels : (o : Object) (i j : ℕ) → i < 16 → j < 16 → head_number (key o i) ≡ head_number (key o j) → i ≡ j
+head_cancels o i j a b e = omega (arith, a, b, e)
+
+-- the newest way leaves its bag tidy where the bag is
+pub newest_tidy : (n k : ℕ) (v w : View) (s : Sought) → (f : IsSought n k v w s) → IsTidy k w → IsLeftTidy w f.way
+newest_tidy n k v w s f t = (t.0, subst (λ (z : ℕ). LastHead (head_number z) t.0 w.looked.heads) (sym f.bag) t.1, read t.0 t.2)
+  where
+    read : (h : Option ℕ) → IfSome h (IsReadUnconsumed w.looked.ways) → IfSome h (λ i. (c : Cell) × (c ≢ Consumed) × HasRead i c f.way.looks)
+    read None r = tt
+    read (Some i) r = (r.0, r.1, subst (HasRead i r.0) (ap newest_looks f.more) r.2)
+
+-- a bag that was left tidy stays so where its head does
+pub still_left_tidy : (k : ℕ) (u w : View) (x : Way) → KeepsHeads k u w → (head_number x.bag ≡ head_number k → ⊥) → IsLeftTidy u x → IsLeftTidy w x
+still_left_tidy k u w x kept ne t = (t.0, kept (head_number x.bag) t.0 ne t.1, t.2)
 
 -- what was found on the newest way was seen, and is known to be in its bag
 pub found_ready : (n k : ℕ) (v w : View) (i : ℕ) (next : Option ℕ) → IsSought n k v w (Found i next) → HasSeen w i next × KnowsBag w i k

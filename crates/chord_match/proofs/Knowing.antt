@@ -11,20 +11,23 @@ use Rattle.chord_base.proofs.Pending.{has_more}
 use Rattle.chord_base.proofs.Waits.{either}
 use Rattle.chord_rule.specs.declared.view.Look.{Look}
 use Rattle.chord_rule.specs.declared.view.View.{View}
+use Rattle.chord_rule.specs.declared.view.Way.{Way}
+use Rattle.chord_rule.specs.Bags.{head_number}
 use Rattle.chord_rule.specs.Made.{key}
+use Rattle.chord_rule.specs.Ways.{HasWay, IsAloneDesk}
 use Rattle.chord_bag.specs.declared.walk.Sought.{Sought}
 use Rattle.chord_bag.specs.declared.walk.Sought.TheVariants.{Found, Bare, Busy}
 use Rattle.chord_bag.specs.Reads.{AllAt}
-use Rattle.chord_bag.specs.Seeking.{IsSought}
+use Rattle.chord_bag.specs.Seeking.{IsSought, IsTidy, KeepsHeads}
 use Rattle.chord_bag.proofs.Turning.{still_alone}
 use Rattle.chord_match.specs.declared.search.Own.{Own}
 use Rattle.chord_match.specs.declared.search.Pick.TheVariants as a_pick
 use Rattle.chord_match.specs.declared.search.Step.{Step}
 use Rattle.chord_match.specs.declared.search.Step.TheVariants as a_step
-use Rattle.chord_match.specs.Seen.{bags_of, Grows, MayAllBeClaimed, AreMatched}
+use Rattle.chord_match.specs.Seen.{bags_of, Grows, IsLeftTidy, MayAllBeClaimed, AreMatched}
 use Rattle.chord_match.specs.Searching.{SaysOf, WasTold, WasToldIf, Searching, KeepsKnown, Moves, Learned, LearnsAt, LearnsOf, pick_of, IsStuckAt, Picked, PickedFirst, IsStuck, IsGathered, Gathered}
 use Rattle.chord_match.proofs.Lists.{first_has, different_at, from_place}
-use Rattle.chord_match.proofs.Growing.{grows_refl, grows_trans, sought_grows, answered_on, seen_on, duty_on, knows_on, ready_on, member_on, key_cancels, found_ready, answered}
+use Rattle.chord_match.proofs.Growing.{grows_refl, grows_trans, sought_grows, answered_on, seen_on, duty_on, knows_on, ready_on, member_on, key_cancels, head_cancels, way_has, newest_tidy, still_left_tidy, found_ready, answered}
 
 -- nothing is forgotten where nothing is done
 keeps_refl : (known : List (Option Sought)) → KeepsKnown known known
@@ -90,12 +93,13 @@ module _ (n : ℕ) where
   }
 
   -- what a seek answered is known from now on, and of the other bags what was known
-  pub learned_now : (u w : View) (o : Object) (j : ℕ) (known : List (Option Sought)) (s : Sought) → slice_index_or known j None ≡ None → j < length known → IsSought n (key o j) u w s → Learned n u w o j known (slice_set known j (Some s)) s
-  learned_now u w o j known s e low f = record {
+  pub learned_now : (u w : View) (o : Object) (j : ℕ) (known : List (Option Sought)) (s : Sought) → slice_index_or known j None ≡ None → j < length known → j < 16 → IsSought n (key o j) u w s → (IsAloneDesk u → IsTidy (key o j) w) → KeepsHeads (key o j) u w
+      → Learned n u w o j known (slice_set known j (Some s)) s
+  learned_now u w o j known s e low few f tidied apart = record {
     told = λ v own t. record {
       moves = record {
         stands = record {
-          sought = record { grows = grows_trans v u w t.sought.grows g; once = (new_bag v own t, t.sought.once); along = ap (λ (z : List Look). f.way.looks ++ z) t.sought.along };
+          sought = record { grows = grows_trans v u w t.sought.grows g; once = (new_bag v own t, t.sought.once); along = ap (λ (z : List Look). f.way.looks ++ z) t.sought.along; tidy = λ a x h. left_tidy v own t a x h };
           listed = λ k h. newest_or_before v own t k (either (k == f.way.bag)) h;
           read = t.read;
           below = t.below;
@@ -133,14 +137,26 @@ module _ (n : ℕ) where
         | inr z ↦ z
       ]
         where
-          never : (v : View) (own : Own) (t : Searching n v u o own known) → (q : ℕ) × (x : Sought) × (f.way.bag ≡ key o q) × (slice_index_or known q None ≡ Some x) → has f.way.bag (bags_of t.sought.grows.ways) ≡ false
+          never : (v : View) (own : Own) (t : Searching n v u o own known) → (q : ℕ) × (x : Sought) × (f.way.bag ≡ key o q) × (slice_index_or known q None ≡ Some x) × (q < 16) → has f.way.bag (bags_of t.sought.grows.ways) ≡ false
           never v own t r = let same = key_cancels o j r.0 (sym f.bag ∙ r.2) in let z : Path (Option Sought) None (Some r.1) = sym e ∙ ap (λ (q : ℕ). slice_index_or known q None) same ∙ r.3 in absurd (cc)
 
       -- a bag that was sought is this one, or was sought before
       newest_or_before : (v : View) (own : Own) (t : Searching n v u o own known) (k : ℕ) → ((k == f.way.bag) ≡ true) ⊎ ((k == f.way.bag) ≡ false) → ((k == f.way.bag) || has k (bags_of t.sought.grows.ways)) ≡ true
-          → (q : ℕ) × (x : Sought) × (k ≡ key o q) × (slice_index_or (slice_set known j (Some s)) q None ≡ Some x)
-      newest_or_before v own t k (inl y) h = (j, s, eqb-true k f.way.bag y ∙ f.bag, here)
-      newest_or_before v own t k (inr z) h = let r = t.listed k (rw z at h) in (r.0, r.1, r.2, kept r.0 r.1 r.3)
+          → (q : ℕ) × (x : Sought) × (k ≡ key o q) × (slice_index_or (slice_set known j (Some s)) q None ≡ Some x) × (q < 16)
+      newest_or_before v own t k (inl y) h = (j, s, eqb-true k f.way.bag y ∙ f.bag, here, few)
+      newest_or_before v own t k (inr z) h = let r = t.listed k (rw z at h) in (r.0, r.1, r.2, kept r.0 r.1 r.3, r.4)
+
+      -- a bag of which something was known has another head
+      other_head : (k : ℕ) → (q : ℕ) × (x : Sought) × (k ≡ key o q) × (slice_index_or known q None ≡ Some x) × (q < 16) → head_number k ≡ head_number (key o j) → ⊥
+      other_head k r z =
+          let same : r.0 ≡ j = head_cancels o r.0 j r.4 few (sym (ap head_number r.2) ∙ z) in
+          let y : Path (Option Sought) None (Some r.1) = sym e ∙ ap (λ (q : ℕ). slice_index_or known q None) (sym same) ∙ r.3 in
+          absurd (cc)
+
+      -- this bag is left tidy, and those that were stay so
+      left_tidy : (v : View) (own : Own) (t : Searching n v u o own known) → IsAloneDesk v → (x : Way) → HasWay x (f.way ∷ t.sought.grows.ways) → IsLeftTidy w x
+      left_tidy v own t a x (inl y) = subst (IsLeftTidy w) (sym y) (newest_tidy n (key o j) u w s f (tidied (still_alone v u t.sought.grows.only a)))
+      left_tidy v own t a x (inr h) = still_left_tidy (key o j) u w x apart (other_head x.bag (t.listed x.bag (way_has x t.sought.grows.ways h))) (t.sought.tidy a x h)
 
   -- the member for its own method is the own message
   pub picked_own : (v u : View) (o : Object) (own : Own) (j : ℕ) (known : List (Option Sought)) → j ≡ own.method → Searching n v u o own known → Picked n v u u o own j known known (a_pick.Take own.message own.next)
@@ -165,14 +181,14 @@ module _ (n : ℕ) where
   pub first_own : (v u : View) (o : Object) (own : Own) (j : ℕ) (known : List (Option Sought)) → j ≡ own.method → Searching n v u o own known → PickedFirst n v u u o own j known (a_pick.Take own.message own.next)
   first_own v u o own j known e t = record { after = known; long = refl; others = λ q ne. refl; picked = picked_own v u o own j known e t }
 
-  module _ (v u w : View) (o : Object) (own : Own) (j : ℕ) (known : List (Option Sought)) (e : slice_index_or known j None ≡ None) (low : j < length known) (ne : j ≢ own.method) (t : Searching n v u o own known) where
+  module _ (v u w : View) (o : Object) (own : Own) (j : ℕ) (known : List (Option Sought)) (e : slice_index_or known j None ≡ None) (low : j < length known) (few : j < 16) (ne : j ≢ own.method) (t : Searching n v u o own known) where
     -- the bag is sought for the first time, and no other
-    pub first_sought : (s : Sought) → IsSought n (key o j) u w s → PickedFirst n v u w o own j known (pick_of s)
-    first_sought s f = record {
+    pub first_sought : (s : Sought) → IsSought n (key o j) u w s → (IsAloneDesk u → IsTidy (key o j) w) → KeepsHeads (key o j) u w → PickedFirst n v u w o own j known (pick_of s)
+    first_sought s f tidied apart = record {
       after = slice_set known j (Some s);
       long = length-set known j (Some s);
       others = λ q no. get_or-set_other known j q (Some s) None no;
-      picked = picked_sought v u w o own j known (slice_set known j (Some s)) s ne (learned_now u w o j known s e low f) t;
+      picked = picked_sought v u w o own j known (slice_set known j (Some s)) s ne (learned_now u w o j known s e low few f tidied apart) t;
     }
 
   -- a search that went on twice went on

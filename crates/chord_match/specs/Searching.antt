@@ -41,8 +41,8 @@ WasToldIf n v w k (Some s) = WasTold n v w k s
 -- the own message was seen, and since v these bags were sought
 pub record Searching (n : ℕ) (v u : View) (o : Object) (own : Own) (known : List (Option Sought)) : Type 0 where
   pub sought : HasSought v u
-  -- of each bag that was sought something is known
-  pub listed : (k : ℕ) → has k (bags_of sought.grows.ways) ≡ true → (q : ℕ) × (s : Sought) × (k ≡ key o q) × (slice_index_or known q None ≡ Some s)
+  -- each bag that was sought is that of a method, and something is known of it
+  pub listed : (k : ℕ) → has k (bags_of sought.grows.ways) ≡ true → (q : ℕ) × (s : Sought) × (k ≡ key o q) × (slice_index_or known q None ≡ Some s) × (q < 16)
   pub read : HasSeen v own.message own.next
   pub below : own.message < n
   pub next_below : (x : ℕ) → own.next ≡ Some x → x < n

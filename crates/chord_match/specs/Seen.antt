@@ -1,17 +1,20 @@
 -- What a desk has read and been answered since a moment, and which members of a chord it has seen.
-use Rattle.std.specs.Prelude.{◌≡◌, ◌≢◌, ◌⊎◌, ℕ, ◌<◌, List, [], ◌∷◌, ◌++◌, slice_get, Option, Some}
+use Rattle.std.specs.Prelude.{◌≡◌, ◌≢◌, ◌⊎◌, ℕ, ◌<◌, List, [], ◌∷◌, ◌++◌, slice_get, Option, Some, IfSome}
 use Rattle.chord_base.specs.Meaning.{Program}
 use Rattle.chord_base.specs.Messages.{AreDifferent}
 use Rattle.chord_base.specs.declared.value.Object.{Object}
+use Rattle.chord_word.specs.declared.cells.Cell.{Cell}
+use Rattle.chord_word.specs.declared.cells.Cell.TheVariants.{Consumed}
 use Rattle.chord_rule.specs.declared.view.Look.{Look}
 use Rattle.chord_rule.specs.declared.view.View.{View}
 use Rattle.chord_rule.specs.declared.view.Way.{Way}
-use Rattle.chord_rule.specs.Looks.{HasSeen}
+use Rattle.chord_rule.specs.Bags.{head_number}
+use Rattle.chord_rule.specs.Looks.{HasSeen, LastHead}
 use Rattle.chord_rule.specs.Made.{key}
-use Rattle.chord_rule.specs.Ways.{HasWay, KnowsBag, KnowsObject}
+use Rattle.chord_rule.specs.Ways.{HasWay, IsAloneDesk, KnowsBag, KnowsObject}
 use Rattle.chord_bag.specs.declared.walk.Sought.{Sought}
 use Rattle.chord_bag.specs.declared.walk.Sought.TheVariants.{Found}
-use Rattle.chord_bag.specs.Reads.{IsOnlyLooks}
+use Rattle.chord_bag.specs.Reads.{HasRead, IsOnlyLooks}
 use Rattle.chord_bag.specs.Seeking.{IsSoughtAnswer}
 
 -- from one view to another there were looks and ways alone
@@ -32,11 +35,17 @@ abbrev pub looks_along : List Way → List Look
 looks_along [] = []
 looks_along (w ∷ ws) = w.looks ++ looks_along ws
 
+-- the head of the way's bag, as the desk last read or wrote it, leads nowhere, or to a message that was read on the way, and not consumed
+abbrev pub IsLeftTidy : View → Way → Type 0
+IsLeftTidy w x = (head : Option ℕ) × LastHead (head_number x.bag) head w.looked.heads × IfSome head (λ i. (c : Cell) × (c ≢ Consumed) × HasRead i c x.looks)
+
 -- from one view to another bags were sought, none of them twice, and no cell was looked at but on the ways through them
 pub record HasSought (u w : View) : Type 0 where
   pub grows : Grows u w
   pub once : AreDifferent (bags_of grows.ways)
   pub along : grows.looks ≡ looks_along grows.ways
+  -- a first desk alone leaves each of these bags without consumed messages at its head
+  pub tidy : IsAloneDesk u → (x : Way) → HasWay x grows.ways → IsLeftTidy w x
 
 -- since v a way of the bag k was gone, with this answer
 abbrev pub Answered : View → View → ℕ → Sought → Type 0

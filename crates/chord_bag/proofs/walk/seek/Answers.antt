@@ -7,7 +7,7 @@ use Rattle.chord_space.specs.Desks.{view}
 use Rattle.chord_bag.specs.declared.walk.Turn.{Turn}
 use Rattle.chord_bag.specs.Seeking.{newest_linked}
 use Rattle.chord_bag.specs.Walking.{Going, ComesToTurn, IsAtHead, PassesConsumed, gone_so_far}
-use Rattle.chord_bag.proofs.Turning.{seek_starts, room_left, low, walk_ended, head_began, still_began, place_below, walk_at, head_read, still_alone, still_tidy, tidy_behind, tidy_at_end}
+use Rattle.chord_bag.proofs.Turning.{seek_starts, room_left, low, walk_ended, head_began, still_began, place_below, walk_at, head_read, still_alone, still_tidy, tidy_behind, tidy_at_end, begun_keeps_heads, still_keeps_heads, own_keeps_heads}
 use Rattle.chord_bag.proofs.walk.seek.Goals as goal
 
 pub loop-place-init : goal.loop-place-init
@@ -18,6 +18,7 @@ loop-place-init g c =
       seek_starts c.args.space.now.events (key c.args.object c.args.method) (view c.args.desk.now) (view c.look_head-place.new.desk) e.looked.linked c.look_head-place.result e.looked.is e.room,
       head_began g.P.Carry.entries g.P.Carry.arguments g.P.Carry.keeps_to c.args.space.now (view c.args.desk.now) (view c.look_head-place.new.desk) (key c.args.object c.args.method) c.look_head-place.result e.looked,
       (λ _. subst (λ (z : View). LastHead (head_number (key c.args.object c.args.method)) c.look_head-place.result z.looked.heads) (sym e.looked.is) (inl (refl, refl))),
+      begun_keeps_heads (key c.args.object c.args.method) (view c.args.desk.now) (view c.look_head-place.new.desk) e.looked.linked c.look_head-place.result e.looked.is,
     )
 
 pub look_on-requires-clause-bounds : goal.look_on-requires-clause-bounds
@@ -61,6 +62,7 @@ loop-place-preserved-in-On g c =
       still_began g.P.Carry.entries g.P.Carry.arguments g.P.Carry.keeps_to c.args.space.now v u (view c.look_on.new.desk) k e.turned.linked i.3,
       (λ a. tidy_behind k n c.in-Some.i c.loop-place.busy c.loop-place.place c.loop-place.at_head u (view c.look_on.new.desk) c.look_on.result e.turned (walk_at n k v u c.in-Some.i c.loop-place.busy s) c.in-Some.is
           (λ word past. subst (λ (t : Turn). PassesConsumed t word.cell) c.in-On.is past) (i.4 a)),
+      still_keeps_heads k v u (view c.look_on.new.desk) e.turned.heads i.5,
     )
 
 pub loop-place-preserved : goal.loop-place-preserved
@@ -74,6 +76,7 @@ loop-place-preserved g c =
       still_began g.P.Carry.entries g.P.Carry.arguments g.P.Carry.keeps_to c.args.space.now v u (view c.look_on.new.desk) k e.turned.linked i.3,
       (λ a. let r = e.turned.read (walk_at n k v u c.in-Some.i c.loop-place.busy s) in
           subst (IsAtHead k (view c.look_on.new.desk) c.in-Past.next) (sym c.if-at_head.false) (still_tidy k u (view c.look_on.new.desk) (record { number = c.in-Some.i; word = r.0 }) e.turned.heads r.1 (subst (IsAtHead k u c.loop-place.place) c.if-at_head.false (i.4 a)))),
+      still_keeps_heads k v u (view c.look_on.new.desk) e.turned.heads i.5,
     )
 
 pub tidy-at_head-requires-clause-bounds : goal.tidy-at_head-requires-clause-bounds
@@ -102,6 +105,7 @@ loop-place-preserved-then-at_head g c =
       (λ a. let last = subst (λ (z : Bool × Option ℕ). IsAtHead k u z.1 z.0) (λ j. (c.if-at_head.true j, c.in-Some.is j)) (i.4 a) in
           let moved = t.alone (still_alone v (view c.look_on.new.desk) after.only a) (subst (LastHead (head_number k) (Some c.in-Some.i)) (sym e.turned.heads) last) in
           subst (IsAtHead k (view c.tidy-at_head.new.desk) c.in-Past.next) (sym moved.0) moved.1),
+      own_keeps_heads k v (view c.look_on.new.desk) (view c.tidy-at_head.new.desk) t.looked.0 t.looked.1 (still_keeps_heads k v u (view c.look_on.new.desk) e.turned.heads i.5),
     )
 
 pub returns-in-Over-clause-sought : goal.returns-in-Over-clause-sought
@@ -135,3 +139,12 @@ returns-in-None-clause-tidy g c = λ a. tidy_at_end (key c.args.object c.args.me
 
 pub returns-in-Some-busy-clause-tidy : goal.returns-in-Some-busy-clause-tidy
 returns-in-Some-busy-clause-tidy g c = λ a. tidy_at_end (key c.args.object c.args.method) (view c.loop-place.desk) c.loop-place.at_head c.loop-place.place c.in_default.is (c.loop-place.invariant.4 a)
+
+pub returns-in-Over-clause-other_heads : goal.returns-in-Over-clause-other_heads
+returns-in-Over-clause-other_heads g c = still_keeps_heads (key c.args.object c.args.method) (view c.args.desk.now) (view c.loop-place.desk) (view c.look_on.new.desk) c.look_on.ensures.turned.heads c.loop-place.invariant.5
+
+pub returns-in-None-clause-other_heads : goal.returns-in-None-clause-other_heads
+returns-in-None-clause-other_heads g c = c.loop-place.invariant.5
+
+pub returns-in-Some-busy-clause-other_heads : goal.returns-in-Some-busy-clause-other_heads
+returns-in-Some-busy-clause-other_heads g c = c.loop-place.invariant.5
