@@ -50,7 +50,7 @@ pub struct Frames {
 }
 
 /// Frames of no body, with room to begin any block of the code. They hold nothing, and have no other room.
-pub fn spare(alloc: Global, code: &Code, limits: &Limits) -> Result<Frames, AllocError>
+pub fn blank(alloc: Global, code: &Code, limits: &Limits) -> Result<Frames, AllocError>
     ensures room { IfOk result (λ frames. IsRoomFor code.now frames) }
     ensures limits { IfOk result (λ frames. frames.limits ≡ limits.now) }
     ensures lean { IfOk result (λ frames. AreBlank code.now frames) }
