@@ -11,7 +11,7 @@ ghost use Rattle.chord_vm.specs.declared.frames.Frames.{Frames as TheFrames};
 ghost use Rattle.chord_vm.specs.declared.ask.Ask.{Ask as AnAsk};
 
 use crate::ask::{Ask, clear_ask, put_ask};
-use crate::frames::{Frames, back, enter, move_last, push, push_reserved, take};
+use crate::frames::{Frame, Frames, back, enter, move_last, push, push_reserved, take};
 use crate::fused::{AtOnce, load_at_once, stores_at_once};
 use crate::numbers::{operate_on, operator_of, put_value};
 use chord_base::event::{End, Limits, Trap};
