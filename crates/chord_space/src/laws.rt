@@ -5,7 +5,7 @@ ghost use Rattle.chord_rule.specs.Laws.{OneIsMinded, TakenShows, ConsumedTaken, 
 
 use chord_code::carry::Carry;
 
-/// Wherever the join machine may fire a chord, one of the pending messages is minded: a desk has it in hand or has a duty on
+/// Wherever the join machine may fire a chord, one of the pending messages is minded: it is not armed yet, a desk has a duty on
 /// it, or a woken caller looks after it.
 pub fn one_is_minded<P: Carry>()
     ensures { (code : Parts) (limits : Limits) → OneIsMinded P.entries P.arguments (λ q. P.keeps_to q code limits) }

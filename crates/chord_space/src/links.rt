@@ -16,8 +16,8 @@ use chord_word::{Cell, Word, pack, pack_head, pack_place, unpack_head};
 use std::marker::Brand;
 
 impl<P: Carry> Space<P> {
-    // Two steps, with the parcel put into its slot between them. The first sets the place word, which nobody reads before the
-    // cell is armed. The second pairs with each look at the head of the bag: who reads the message there reads its place too.
+    // Two steps, with the parcel put into its slot between them. The first sets the place word: a look at the place reads 0
+    // before. The second pairs with each look at the head of the bag: who reads the message there reads its place too.
     fn step_link<J: Addressed>(
         &self,
         desk: &mut Desk<P>,

@@ -112,8 +112,8 @@ impl<P: Carry> Space<P> {
     ghost use Rattle.chord_rule.specs.Layout.{cell_at, place_at, head_at};
     ghost use Rattle.chord_space.specs.Desks.{view, heads, space_code, space_limits, IsDeskOf};
 
-    /// A table for the runs of the code under these limits, and its first desk. It takes memory for a slot and two words an event, and
-    /// for a head for each method of the code's largest class.
+    /// A table for the runs of the code under these limits, and its first desk. For each event it takes memory for a slot, for two
+    /// words, and for a head for each method of the code's largest class.
     pub fn make(
         alloc: Global,
         code: &Code,
