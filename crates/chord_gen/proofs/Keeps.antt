@@ -52,7 +52,7 @@ translation_keeps sig p typed plan =
     let fwd : IsForward (code_of p) = valid_forward (code_of p) (translation_valid sig p typed plan) in
     let code = is_code sig p (code_of p) typed plan refl fwd in
     record {
-      asks = λ limits s d rs r low high f one most fit. asks_the_same sig p (code_of p) typed plan refl fwd limits s d rs r f fit;
-      runs = λ limits low high. (sound_runs sig p (code_of p) typed plan code limits).runs;
+      asks = asks_the_same sig p (code_of p) typed plan refl fwd;
+      runs = λ limits. (sound_runs sig p (code_of p) typed plan code limits).runs;
       sound = λ limits low high. (sound_runs sig p (code_of p) typed plan code limits).sound;
     }

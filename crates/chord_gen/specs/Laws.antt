@@ -1,5 +1,5 @@
 -- What the code of a source keeps of it.
-use Rattle.std.specs.Prelude.{◌≡◌, ◌≤◌, ℕ, List, Option}
+use Rattle.std.specs.Prelude.{◌≡◌, ℕ, List, Option}
 use Rattle.chord_base.specs.Meaning.{Start}
 use Rattle.chord_base.specs.declared.event.End.{End}
 use Rattle.chord_base.specs.declared.event.Limits.{Limits}
@@ -16,11 +16,11 @@ use Rattle.chord_source.specs.Source.{play_of, source_program}
 use Rattle.chord_source.specs.Laws.{AreWellTyped, StartFits, AnswersFit}
 use Rattle.chord_gen.specs.Translation.{code_of}
 
--- Under every depth limit that a run may have: whatever fits a body is answered, the code's next ask is the source's; and its runs are the source's.
+-- Whatever the limits, and whatever fits a body is answered, the code's next ask is the source's; its runs are the source's; and it is sound.
 pub record KeepsMeaning (code : Parts) (p : Resolved) (sig : Signatures) : Type 0 where
-  pub asks : (limits : Limits) (s : Start) (d : ℕ) (rs : List End) (r : Option StaticType) → 1 ≤ limits.depth → limits.depth ≤ 256 → StartFits sig p s r → 1 ≤ d → d ≤ limits.depth → AnswersFit sig (play_of p limits s d) rs
+  pub asks : (limits : Limits) (s : Start) (d : ℕ) (rs : List End) (r : Option StaticType) → StartFits sig p s r → AnswersFit sig (play_of p limits s d) rs
       → (code_program code limits).next s d rs ≡ (source_program p limits).next s d rs
-  pub runs : (limits : Limits) → 1 ≤ limits.depth → limits.depth ≤ 256 → AgreeInRuns (code_program code limits) (source_program p limits)
+  pub runs : (limits : Limits) → AgreeInRuns (code_program code limits) (source_program p limits)
   pub sound : IsSoundCode code
 
 -- The code of a source whose bodies keep to their static types, and whose plan is as it must be, keeps its meaning, and is sound.

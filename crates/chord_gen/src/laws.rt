@@ -4,12 +4,13 @@
 ghost use Rattle.chord_gen.specs.TypedSource.{AcceptedIsTyped};
 ghost use Rattle.chord_gen.specs.Laws.{TranslationKeeps, TranslationValid};
 
-/// The code of a source asks what the source asks, its runs are the source's, and it is sound in every run.
+/// The code of a source whose bodies keep to their static types (`AreWellTyped`), and whose plan is as it must be (`IsPlanned`),
+/// asks what the source asks, its runs are the source's, and it is sound in every run.
 pub fn translation()
     ensures { TranslationKeeps }
 {}
 
-/// The code of a source is valid.
+/// The code of such a source is valid.
 pub fn valid()
     ensures { TranslationValid }
 {}

@@ -11,7 +11,7 @@ use std::alloc::{AllocError, Global};
 ///
 /// # Errors
 ///
-/// `AllocError` where there is no memory for sorting, which is asked for only where a number is there twice.
+/// `AllocError` where there is no memory for sorting, which is asked for only where a number is there twice: the `requires` excludes it.
 pub fn gather(alloc: Global, entries: Vec<Entry>) -> Result<Journal, AllocError>
     requires { AreOfJournal entries.items }
     ensures { IfOk result (λ journal. IsPermutation entries.items journal) }

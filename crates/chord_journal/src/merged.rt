@@ -18,7 +18,8 @@ const STRETCH: usize = 1024;
 ///
 /// # Errors
 ///
-/// `AllocError` where there is no memory for the entries beside the lists, or for sorting, which is asked for only where a number is there twice.
+/// `AllocError` where there is no memory for the entries beside the lists, or for sorting, which is asked for only where a number is there twice:
+/// the `requires` excludes that.
 pub fn gather_lists(alloc: Global, lists: Vec<Vec<Entry>>) -> Result<Journal, AllocError>
     requires { AreOfJournal (flat_map (λ list. list.items) lists.items) }
     ensures { IfOk result (λ journal. IsPermutation (flat_map (λ list. list.items) lists.items) journal) }

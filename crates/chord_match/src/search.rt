@@ -273,8 +273,9 @@ fn through<P: Carry>(
 /// Looks for a chord with message m, to this method of this object, on which the desk has a duty: looks at m, and then seeks
 /// bags of the other methods of the chords with m's method, none of them twice, and no other bag. `Match` goes before `Busy`, and
 /// `Busy` before `Left`. The duty is laid down with `Left` and `Taken` alone. On a first desk that has lent none and has no claim
-/// and nothing in flight it is never Busy, and the head of each bag that was sought then leads to no message that was read
-/// consumed. Who has what was read claimed is not said here: where this desk has no claim, the rule says that another one has.
+/// and nothing in flight it is never Busy, and the head of each bag that was sought then leads nowhere, or to a message that the
+/// way through the bag read, and not consumed. Who has what was read claimed is not said here: where this desk has no claim, the
+/// rule says that another one has.
 ///
 /// The members of a match and their nexts are put into the caller's places, whatever stood there; else what stands there says nothing.
 ///

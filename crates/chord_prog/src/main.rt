@@ -1,7 +1,7 @@
 //! The program: the words of the command line without the program's name, standard input and standard output go to the top call
 //! as they are.
 //! Stands on: chord_run, chord_io. Used by: nobody.
-//! Promise: where the words cannot be taken it ends with 7 if there is no memory for them, and else with 2, since words which are
+//! Promise: where the words cannot be had it ends with 7 if there is no memory for them, and else with 2, since words which are
 //! not text are no words of the command line (`status_of`). What a run writes is what `chord` promises.
 //! Not here: any other decision.
 #![tactic(auto)]
@@ -28,7 +28,7 @@ fn words<R: Env + Alloc<A = Global>>(rt: &R) -> io::Result<Vec<String>> {
     Ok(env::args(rt)?.skip(1).collect(rt.alloc())?)
 }
 
-/// The status where the words cannot be taken: out of memory, or other words than those of the command line.
+/// The status where the words cannot be had: out of memory, or other words than those of the command line.
 fn status_of(kind: ErrorKind) -> u8
     ensures memory { kind ≡ ErrorKind.OutOfMemory → result ≡ 7 }
     ensures other { (kind ≡ ErrorKind.OutOfMemory → ⊥) → result ≡ 2 }

@@ -1,5 +1,5 @@
 //! The cards of the workers of one run.
-ghost use Rattle.std.specs.Prelude.{◌≡◌, ◌+◌, ◌<◌, true, false, None, Some, IfOk};
+ghost use Rattle.std.specs.Prelude.{◌≡◌, ◌+◌, ◌<◌, true, false, None, Some, IfOk, OnErr};
 ghost use Rattle.std.specs.Arc.{arc_value};
 
 use crate::plays::{Begin, End, Hire, Read, ReadStop, Stop};
@@ -59,7 +59,7 @@ impl Card {
         })
     }
 
-    /// One more card of this roll, which does not count. Only the first card makes others, at most 65,535.
+    /// One more card of this roll, which does not count. Only the first card makes others, at most 65,535; a refused one is not among them.
     ///
     /// # Errors
     ///
@@ -69,6 +69,7 @@ impl Card {
         ensures same { HasAskedNothing self.old self.new × (counts self.new ≡ counts self.old) × (stops self.new ≡ stops self.old) }
         ensures ended { ended self.new ≡ ended self.old }
         ensures tells { tells self.new ≡ tells self.old }
+        ensures refused { OnErr result (hired self.new ≡ hired self.old) }
         ensures other { IfOk result (λ card. (hired self.new ≡ hired self.old + 1) × (roll_of card ≡ roll_of self.old) × (counts card ≡ false) × (stops card ≡ false) × (ended card ≡ 0) × (last_read card ≡ None) × (reads card ≡ 0) × (times_asked card ≡ 0)) }
     {
         let roll = Arc::clone(&self.roll)?;

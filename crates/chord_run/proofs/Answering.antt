@@ -1,5 +1,5 @@
 -- A source that gave too many bytes is answered by its refusal, and an accepted one by a run of its code.
-use Rattle.std.proofs.Common.{◌≡◌, ◌≤◌, ℕ, ◌<◌, List, ◌++◌, inl, inr, length, length-append, Option, Some, None, codes, refl, ap, arith}
+use Rattle.std.proofs.Common.{◌≡◌, ℕ, ◌<◌, List, ◌++◌, inl, inr, length, length-append, Option, Some, None, codes, refl, ap, arith}
 use Rattle.std.specs.Prelude.{◌⊎◌}
 use Rattle.chord_base.specs.Agreement.{SameRuns}
 use Rattle.chord_classes.specs.Plan.{resolved_program}
@@ -48,9 +48,9 @@ request_answered arguments left request report before after requested (inl silen
 request_answered arguments left request report before after requested (inr a) = inr (record { request = request; requested = requested; source = a.source; given = a.given; answered = a.answered })
 
 -- a run of the code of an accepted source is its answer
-run_answers : SameRuns → (request : Request) (source : List ℕ) (code : Parts) (report : Report) (before after : Option (List ℕ)) → 1 ≤ request.limits.depth → request.limits.depth ≤ 256 → IsCompiledSource source code → MakesRun request.mode → ReportsRun request (code_program code request.limits) report before after → AnswersSource request source report before after
-run_answers law request source code report before after shallow deep c makes r =
-    let agree = c.code_of.runs request.limits shallow deep in
+run_answers : SameRuns → (request : Request) (source : List ℕ) (code : Parts) (report : Report) (before after : Option (List ℕ)) → IsCompiledSource source code → MakesRun request.mode → ReportsRun request (code_program code request.limits) report before after → AnswersSource request source report before after
+run_answers law request source code report before after c makes r =
+    let agree = c.code_of.runs request.limits in
     record {
       due = record { status = r.status; text = text_due request r.journal };
       is_due = rw (r.reported, r.refusal) (record {
@@ -72,11 +72,11 @@ text_answers request source text report before after is r = record {
 }
 
 -- what is reported for the code of an accepted source is the source's answer
-pub code_answers : SameRuns → (request : Request) (source : List ℕ) (code : Parts) (report : Report) (before after : Option (List ℕ)) → 1 ≤ request.limits.depth → request.limits.depth ≤ 256 → IsCompiledSource source code → ReportsCode request code report before after → AnswersSource request source report before after
-code_answers law request source code report before after shallow deep c r = by_mode request.mode refl r
+pub code_answers : SameRuns → (request : Request) (source : List ℕ) (code : Parts) (report : Report) (before after : Option (List ℕ)) → IsCompiledSource source code → ReportsCode request code report before after → AnswersSource request source report before after
+code_answers law request source code report before after c r = by_mode request.mode refl r
   where
     by_mode : (mode : Mode) → request.mode ≡ mode → ReportsBy mode request code report before after → AnswersSource request source report before after
-    by_mode Run e r = run_answers law request source code report before after shallow deep c (rw e tt) r
+    by_mode Run e r = run_answers law request source code report before after c (rw e tt) r
     by_mode Rules e r = text_answers request source (codes "ok\n") report before after (rw e ((c.program, c.accepted), refl)) r
     by_mode Code e r = text_answers request source (listing_text code) report before after (rw e (record { program = c.program; accepted = c.accepted; text_is = ap listing_text c.code_of.is_code })) r
-    by_mode (Load k) e r = run_answers law request source code report before after shallow deep c (rw e tt) r
+    by_mode (Load k) e r = run_answers law request source code report before after c (rw e tt) r

@@ -40,5 +40,5 @@ has_code p source code same t keeps is sound kept = record {
   kept = kept;
   is_code = is ∙ ap code_of same;
   sound = sound;
-  runs = λ limits shallow deep. subst (λ z. AgreeInRuns (code_program code limits) (source_program z limits)) same ((keeps t.sig t.typed t.planned).runs limits shallow deep);
+  runs = λ limits. subst (λ z. AgreeInRuns (code_program code limits) (source_program z limits)) same ((keeps t.sig t.typed t.planned).runs limits);
 }

@@ -18,7 +18,9 @@ accepted_examples = record {
   behind = record { taken = refl; says = record { mode = refl; limits = refl; workers = refl; one = refl; journal = refl } };
   journal = record { taken = refl; says = record { mode = refl; limits = refl; workers = refl; one = refl; journal = refl } };
   attached = record { taken = refl; says = record { mode = refl; limits = refl; workers = refl; one = refl; journal = refl } };
+  events_apart = record { taken = refl; says = record { mode = refl; limits = refl; workers = refl; one = refl; journal = refl } };
   apart = record { taken = refl; says = record { mode = refl; limits = refl; workers = refl; one = refl; journal = refl } };
+  turns_attached = record { taken = refl; says = record { mode = refl; limits = refl; workers = refl; one = refl; journal = refl } };
   workers = record { taken = refl; says = record { mode = refl; limits = refl; workers = refl; one = refl; journal = refl } };
   load = record { taken = refl; says = record { mode = refl; limits = refl; workers = refl; one = refl; journal = refl } };
 }

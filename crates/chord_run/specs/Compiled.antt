@@ -1,5 +1,5 @@
 -- What is found of a program: its code, or its first break.
-use Rattle.std.specs.Prelude.{◌≡◌, ◌≤◌, ◌⊎◌, ℕ, List}
+use Rattle.std.specs.Prelude.{◌≡◌, ◌⊎◌, ℕ, List}
 use Rattle.chord_base.specs.Agreement.{AgreeInRuns}
 use Rattle.chord_base.specs.declared.event.Limits.{Limits}
 use Rattle.chord_classes.specs.Breaks.{IsBreak, IsNotAfter, KeepsEveryRule, every_rule}
@@ -21,7 +21,7 @@ pub record IsCompiled (program : ProgramTree) (code : Parts) : Type 0 where
   pub kept : KeepsEveryRule program
   pub is_code : code ≡ code_of (resolved_program program)
   pub sound : IsSoundCode code
-  pub runs : (limits : Limits) → 1 ≤ limits.depth → limits.depth ≤ 256 → AgreeInRuns (code_program code limits) (source_program (resolved_program program) limits)
+  pub runs : (limits : Limits) → AgreeInRuns (code_program code limits) (source_program (resolved_program program) limits)
 
 -- the code of an accepted source
 pub record IsCompiledSource (source : List ℕ) (code : Parts) : Type 0 where

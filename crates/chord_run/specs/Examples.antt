@@ -14,7 +14,7 @@ on_one_thread asked events turns workers journal =
 abbrev pub of_workers : Mode → ℕ → Request
 of_workers asked workers = record (on_one_thread asked 65536 1000000 workers false) { one = false }
 
--- `run` alone, which four workers make, and eight; `run --one`, the same the other way round and behind `--`, each option in both its forms, and `load 1`
+-- `run` alone, which four workers make, and eight; `run --one`, the same the other way round and behind `--`, each option in both its forms, and `load 60`
 pub record HasExamples : Type 0 where
   pub shared : Requests (codes "run" ∷ []) (of_workers Run 4)
   pub eight : Requests (codes "run" ∷ codes "--workers=8" ∷ []) (of_workers Run 8)
@@ -23,7 +23,9 @@ pub record HasExamples : Type 0 where
   pub behind : Requests (codes "--one" ∷ codes "--" ∷ codes "run" ∷ []) (on_one_thread Run 65536 1000000 4 false)
   pub journal : Requests (codes "--journal" ∷ codes "run" ∷ codes "--one" ∷ []) (on_one_thread Run 65536 1000000 4 true)
   pub attached : Requests (codes "run" ∷ codes "--events=16" ∷ codes "--one" ∷ []) (on_one_thread Run 16 1000000 4 false)
+  pub events_apart : Requests (codes "run" ∷ codes "--events" ∷ codes "16" ∷ codes "--one" ∷ []) (on_one_thread Run 16 1000000 4 false)
   pub apart : Requests (codes "run" ∷ codes "--turns" ∷ codes "0000005" ∷ codes "--one" ∷ []) (on_one_thread Run 65536 5 4 false)
+  pub turns_attached : Requests (codes "run" ∷ codes "--turns=5" ∷ codes "--one" ∷ []) (on_one_thread Run 65536 5 4 false)
   pub workers : Requests (codes "rules" ∷ codes "--one" ∷ codes "--workers" ∷ codes "64" ∷ []) (on_one_thread Rules 65536 1000000 64 false)
   pub load : Requests (codes "load" ∷ codes "60" ∷ codes "--one" ∷ []) (on_one_thread (Load 60) 65536 1000000 4 false)
 

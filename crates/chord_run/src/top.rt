@@ -57,16 +57,16 @@ pub fn chord<R: Threads + Wait + Sync, S: Source, K: Sink, G: Gate + Sync>(
     ensures headline { IsSilence result (K.taken sink.old) (K.taken sink.new)
         ⊎ Answers (argument_bytes arguments.now) (S.left source.old) result (K.taken sink.old) (K.taken sink.new) }
 
-    // Each status has its cause. A read that failed has 3, and a write that failed has 5: one call failed then, and with every
-    // other status none.
+    // Each status but 7 has its cause. A read that failed has 3, before more was read than a source may have, and a write that
+    // failed has 5: one call failed then, and with every other status none.
     ensures status_0 { result.status ≡ 0 → Requested (argument_bytes arguments.now) (λ request.
         Succeeds request (S.left source.old) result (K.taken sink.old) (K.taken sink.new)) }
     ensures status_1 { result.status ≡ 1 → Requested (argument_bytes arguments.now) (λ request.
         Refuses request (S.left source.old) result (K.taken sink.old) (K.taken sink.new)) }
     ensures status_2 { result.status ≡ 2 → AreAccepted (argument_bytes arguments.now) → ⊥ }
     ensures status_2_exactly { (result.status ≡ 2) ⊎ (result.status ≡ 7) ⊎ AreAccepted (argument_bytes arguments.now) }
-    ensures status_2_unread { result.status ≡ 2 → S.left source.new ≡ S.left source.old }
     ensures status_3 { result.status ≡ 3 → Rose (S.faults source.old) (S.faults source.new) }
+    ensures status_3_within { result.status ≡ 3 → GaveAtMost 1048576 (S.left source.old) (S.left source.new) }
     ensures status_3_exactly { (result.status ≡ 3) ⊎ (S.faults source.new ≡ S.faults source.old) }
     ensures status_4 { result.status ≡ 4 → Requested (argument_bytes arguments.now) (λ request.
         Finishes request (S.left source.old) result (K.taken sink.old) (K.taken sink.new) 4) }
@@ -127,8 +127,8 @@ fn answer<R: Threads + Wait + Sync, S: Source, K: Sink, G: Gate + Sync>(
     ensures table { (request : asked.Request) → Requests (argument_bytes arguments.now) request → HasTable G.knows request.one request.workers result.journal result.table }
     ensures words_refused { result.status ≡ 2 → AreAccepted (argument_bytes arguments.now) → ⊥ }
     ensures words_accepted { (result.status ≡ 2) ⊎ (result.status ≡ 7) ⊎ AreAccepted (argument_bytes arguments.now) }
-    ensures unread { result.status ≡ 2 → S.left source.new ≡ S.left source.old }
     ensures read_fault { result.status ≡ 3 → Rose (S.faults source.old) (S.faults source.new) }
+    ensures read_within { result.status ≡ 3 → GaveAtMost 1048576 (S.left source.old) (S.left source.new) }
     ensures write_fault { result.status ≡ 5 → Rose (K.faults sink.old) (K.faults sink.new) }
     ensures read_told { (result.status ≡ 3) ⊎ (S.faults source.new ≡ S.faults source.old) }
     ensures write_told { (result.status ≡ 5) ⊎ (K.faults sink.new ≡ K.faults sink.old) }
@@ -162,6 +162,7 @@ fn answer_request<R: Threads + Wait + Sync, S: Source, K: Sink, G: Gate + Sync>(
         ⊎ AnswersContents request.now (source_contents request.now (S.left source.old)) result (K.taken sink.old) (K.taken sink.new) }
     ensures no_words_refused { result.status ≡ 2 → ⊥ }
     ensures read_fault { result.status ≡ 3 → Rose (S.faults source.old) (S.faults source.new) }
+    ensures read_within { result.status ≡ 3 → GaveAtMost 1048576 (S.left source.old) (S.left source.new) }
     ensures write_fault { result.status ≡ 5 → Rose (K.faults sink.old) (K.faults sink.new) }
     ensures read_told { (result.status ≡ 3) ⊎ (S.faults source.new ≡ S.faults source.old) }
     ensures write_told { (result.status ≡ 5) ⊎ (K.faults sink.new ≡ K.faults sink.old) }
@@ -216,6 +217,7 @@ fn answer_read<R: Threads + Wait + Sync, S: Source, K: Sink, G: Gate + Sync>(
         ⊎ AnswersContents request.now (S.left source.old) result (K.taken sink.old) (K.taken sink.new) }
     ensures no_words_refused { result.status ≡ 2 → ⊥ }
     ensures read_fault { result.status ≡ 3 → Rose (S.faults source.old) (S.faults source.new) }
+    ensures read_within { result.status ≡ 3 → GaveAtMost 1048576 (S.left source.old) (S.left source.new) }
     ensures write_fault { result.status ≡ 5 → Rose (K.faults sink.old) (K.faults sink.new) }
     ensures read_told { (result.status ≡ 3) ⊎ (S.faults source.new ≡ S.faults source.old) }
     ensures write_told { (result.status ≡ 5) ⊎ (K.faults sink.new ≡ K.faults sink.old) }

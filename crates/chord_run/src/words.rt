@@ -16,7 +16,7 @@ use std::alloc::{AllocError, Global};
 pub enum WordsFault {
     /// The call ran out of memory.
     Memory,
-    /// The command does not take them.
+    /// They are not accepted: the command does not take them, or what they say is no request.
     Refused,
 }
 

@@ -9,6 +9,9 @@ use Rattle.chord_run.proofs.top.answer.Goals as goal
 pub returns-in-Ok-clause-headline : goal.returns-in-Ok-clause-headline
 returns-in-Ok-clause-headline g c = request_answered _ _ c.in-Ok.request c.answer_request.result _ _ c.in-Ok.ensures.requested c.answer_request.ensures.answered
 
+pub returns-in-Ok-clause-read_within : goal.returns-in-Ok-clause-read_within
+returns-in-Ok-clause-read_within g c = c.answer_request.ensures.read_within
+
 pub returns-in-Err-Refused-clause-taken : goal.returns-in-Err-Refused-clause-taken
 returns-in-Err-Refused-clause-taken g c = ([], omega arith, Gave-nothing _)
 

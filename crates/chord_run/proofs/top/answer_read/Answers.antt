@@ -8,6 +8,9 @@ returns-in-Err-TooLong-clause-answered g c =
     let s = source_of (g.S.Source.left c.args.source.now) _ t.0 t.2 in
     inr (record { source = s.0; given = s.1; answered = long_answers c.args.request.now _ s.0 c.refuse.result _ _ (s.2 (omega (arith, t.1))) c.refuse.ensures.answered })
 
+pub returns-in-Err-Failed-clause-read_within : goal.returns-in-Err-Failed-clause-read_within
+returns-in-Err-Failed-clause-read_within g c e = c.in-Err-Failed.ensures.failed_within (rw c.in-Err-Failed.field-0-is refl)
+
 pub returns-in-Err-Failed-clause-taken : goal.returns-in-Err-Failed-clause-taken
 returns-in-Err-Failed-clause-taken g c = c.in-Err-Failed.ensures.part
 

@@ -6,5 +6,8 @@ use Rattle.chord_run.proofs.top.answer_request.Goals as goal
 pub returns-in-Some-clause-taken : goal.returns-in-Some-clause-taken
 returns-in-Some-clause-taken g c = ([], omega arith, Gave-nothing _)
 
+pub returns-in-None-clause-read_within : goal.returns-in-None-clause-read_within
+returns-in-None-clause-read_within g c = c.answer_read.ensures.read_within
+
 pub returns-in-None-clause-taken : goal.returns-in-None-clause-taken
 returns-in-None-clause-taken g c = c.answer_read.ensures.taken
