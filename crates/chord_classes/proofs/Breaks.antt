@@ -39,7 +39,7 @@ module _ (p : ProgramTree) (mine others : ℕ → Bool) (covers : (r k : ℕ) �
   either_pass r k x free none (inr y) = none r k y x
 
   -- two families one of which each broken rule is of have one break
-  pub families_join : BreaksJoin p mine others
+  families_join : BreaksJoin p mine others
   families_join = record {
     earlier = λ r k s l b o f. record { is_mine = refl; broken = b.broken; first = λ t m e x. by_family r k t m b x (λ y. first_on r k s l t m f (o.first t m y x)) (covers t m x) };
     resolved_alone = λ r k b free. record { is_mine = refl; broken = b.broken; first = λ t m e x. by_family r k t m b x (λ y. absurd (free t m y x)) (covers t m x) };
@@ -47,6 +47,6 @@ module _ (p : ProgramTree) (mine others : ℕ → Bool) (covers : (r k : ℕ) �
     only_one = λ r k s l a b. same_place r k s l (a.first s l b.is_mine b.broken) (b.first r k a.is_mine a.broken);
   }
 
--- two families one of which each rule is of have one break
+-- the same of every program
 pub all_join : AllJoin
-all_join p mine others covers = families_join p mine others (λ r k x. covers r)
+all_join = families_join

@@ -1,5 +1,7 @@
 -- Look-ups by the versions of a class, and one more class with its versions.
-use Rattle.std.proofs.Common.{◌≡◌, ℕ, ◌+◌, ◌<◌, ◌≤◌, List, [], ◌∷◌, ◌++◌, Bool, true, false, cond, ◌||◌, map, length, refl, sym, ap, subst, ◌∙◌, arith, Option, Some, None, is_some, zero, suc, slice_get, nat_eq, nat_lt, get_or, inl, inr, length-append}
+use Rattle.std.proofs.Common.{◌≡◌, ℕ, ◌+◌, ◌*◌, ◌^◌, ◌<◌, ◌≤◌, List, [], ◌∷◌, ◌++◌, Bool, true, false, cond, ◌||◌, map, length, refl, sym, ap, subst, ◌∙◌, arith, Option, Some, None, is_some, zero, suc, slice_get, nat_eq, nat_lt, get_or, inl, inr, length-append, append-nil}
+use Rattle.std.proofs.Math.Nat.{add-mul, one-mul}
+use Rattle.std.proofs.lemmas.Grind.{flat_map-append}
 use Rattle.std.specs.Prelude.{option_map, option_and_then}
 use Rattle.std.proofs.lemmas.Option.{slice_get_read, slice_get_past}
 use Rattle.std.proofs.lemmas.Bool.{ltb-true, ltb-false}
@@ -9,13 +11,14 @@ use Rattle.chord_classes.specs.Table.{Found, Shape, among, method_named, methods
 use Rattle.chord_classes.specs.declared.entry.Entry.{Entry}
 use Rattle.chord_classes.specs.declared.owners.Owners.{Owners}
 use Rattle.chord_classes.specs.declared.versions.Fork.{Fork}
-use Rattle.chord_classes.specs.MethodViews.{see_method}
+use Rattle.chord_classes.specs.MethodViews.{see_method, names_of}
 use Rattle.chord_classes.specs.NamePlaces.{name_place}
 use Rattle.chord_classes.specs.Forks.{under, IsVersion, IsNextVersion}
 use Rattle.chord_classes.specs.Entries.{IsEntry, shapes_of}
-use Rattle.chord_classes.specs.Owned.{owner_in, IsOwned, IsOwning, shift, new_method, owned_method, line_in, line_at, owned_in, owned_at, IsMapped, IsShapeTable}
+use Rattle.chord_classes.specs.Owned.{owner_in, IsOwned, IsOwning, shift, new_method, owned_method, line_in, line_at, owned_in, owned_at, IsMapped, AddsNames, no_owners, new_names, IsShapeTable}
 use Rattle.chord_classes.proofs.TableLookups.{method_append, or_found, own_absent, eq_turned}
-use Rattle.chord_classes.proofs.SharedForks.{stands_earlier, empty_version, under_none, version_of_more}
+use Rattle.chord_classes.proofs.SharedForks.{stands_earlier, empty_version, under_none, version_of_more, few_halves}
+use Rattle.chord_classes.proofs.OwnedNames.{names_more}
 use Rattle.chord_classes.proofs.Adding.{IsNext, appended, inherited_kept, bases_kept, base_below, is_entry, either_at, kept_at, entries_extended, shapes_more}
 use Rattle.chord_classes.proofs.Facts.{same_some, none_some}
 use Rattle.chord_classes.proofs.Lists.{get_last}
@@ -210,15 +213,35 @@ module _ (done : List Shape) (entries : List Entry) (names : List (List ℕ)) (l
     | inr l ↦ subst (λ z. IsMapped shapes all_entries new_lines new_owners z e) (sym l.0) (subst (λ z. IsMapped shapes all_entries new_lines new_owners (length entries) z) l.1 new_mapped)
   ]
 
+  -- there are few forks of what classes derive from
+  pub few_lines : (halves : ℕ) → length all_entries < 2 ^ halves → length new_lines ≤ length all_entries * halves
+  few_lines halves less =
+      let one = one_more in
+      let before = t.few halves (omega (arith, one, less)) in
+      let count = ap length lined.forks in
+      let split = length-append lines lined.more in
+      let most = few_halves (length lined.more) (length entries) (length all_entries) halves lined.few (omega (arith, one)) less in
+      let all : length all_entries * halves ≡ length entries * halves + halves = ap (λ z. z * halves) one ∙ add-mul (length entries) 1 halves ∙ ap (λ z. length entries * halves + z) (one-mul halves) in
+      omega (arith, before, count, split, most, all)
+
+-- the names of the methods that are new in classes with one more
+names_end : (entries : List Entry) (entry : Entry) → new_names (entries ++ (entry ∷ [])) ≡ new_names entries ++ names_of entry.own.all.items
+names_end entries entry = flat_map-append (λ (e : Entry). names_of e.own.all.items) entries (entry ∷ []) ∙ ap (λ z. new_names entries ++ z) (append-nil (names_of entry.own.all.items))
+
 -- the table with one more
 pub table_extended : (done : List Shape) (entries more : List Entry) (names more_names : List (List ℕ)) (lines new_lines : List Fork) (owners new_owners : Owners) (entry : Entry) (text : List ℕ) (line value : ℕ) → shapes_of entries ≡ done
     → IsShapeTable (shapes_of entries) entries names lines owners → length entries < 4294967295 → IsNext done (see_class entry.class.now) entry → more ≡ entries ++ (entry ∷ []) → more_names ≡ names ++ (text ∷ []) → text ≡ entry.class.now.name.text
     → entry.line ≡ Some line → IsNextVersion lines new_lines (line_at entries entry.base) (length entries) value line
-    → IsOwning owners new_owners (owned_at entries entry.base) entry.owned (λ name. is_some (method_named (map see_method entry.own.all.items) name)) (length entries) → IsShapeTable (shapes_of more) more more_names new_lines new_owners
-table_extended done entries more names more_names lines new_lines owners new_owners entry text line value view t room next e n same line_is lined owned = record {
+    → IsOwning owners new_owners (owned_at entries entry.base) entry.owned (λ name. is_some (method_named (map see_method entry.own.all.items) name)) (length entries) → AddsNames owners new_owners (names_of entry.own.all.items)
+    → IsShapeTable (shapes_of more) more more_names new_lines new_owners
+table_extended done entries more names more_names lines new_lines owners new_owners entry text line value view t room next e n same line_is lined owned added = record {
   are = entries_extended done entries more names more_names entry text view t.are room next e n same;
   mapped =
       subst (λ z. (k : ℕ) (x : Entry) → slice_get z k ≡ Some x → IsMapped (shapes_of z) z new_lines new_owners k x) (sym e)
       (subst (λ z. (k : ℕ) (x : Entry) → slice_get (entries ++ (entry ∷ [])) k ≡ Some x → IsMapped z (entries ++ (entry ∷ [])) new_lines new_owners k x) (sym (shapes_more entries entry))
       (all_mapped (shapes_of entries) entries names lines owners t (see_class entry.class.now) entry (subst (λ z. IsNext z (see_class entry.class.now) entry) (sym view) next) new_lines new_owners line value line_is lined owned));
+  owns = subst (λ z. AddsNames no_owners new_owners (new_names z)) (sym e)
+      (subst (AddsNames no_owners new_owners) (sym (names_end entries entry)) (names_more no_owners owners new_owners (new_names entries) (names_of entry.own.all.items) t.owns added));
+  few = subst (λ z. (halves : ℕ) → length z < 2 ^ halves → length new_lines ≤ length z * halves) (sym e)
+      (few_lines (shapes_of entries) entries names lines owners t (see_class entry.class.now) entry (subst (λ z. IsNext z (see_class entry.class.now) entry) (sym view) next) new_lines new_owners line value line_is lined owned);
 }

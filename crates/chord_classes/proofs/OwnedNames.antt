@@ -1,5 +1,6 @@
 -- One more method among those of which it is known in which class they are new.
-use Rattle.std.proofs.Common.{◌≡◌, ℕ, ◌+◌, ◌<◌, ◌≤◌, List, [], ◌∷◌, ◌++◌, Bool, true, false, cond, ◌||◌, length, map, take, drop, get_or, refl, sym, ap, subst, ◌∙◌, arith, Option, Some, None, is_some, zero, suc, length-append, add-one}
+use Rattle.std.proofs.Common.{◌≡◌, ℕ, ◌+◌, ◌*◌, ◌^◌, ◌<◌, ◌≤◌, List, [], ◌∷◌, ◌++◌, Bool, true, false, cond, ◌||◌, length, map, take, drop, get_or, refl, sym, ap, subst, ◌∙◌, arith, Option, Some, None, is_some, zero, suc, length-append, append-nil, append_assoc, add-one}
+use Rattle.std.proofs.Math.Nat.{add-mul, one-mul, zero-mul}
 use Rattle.std.specs.Prelude.{option_and_then}
 use Rattle.std.specs.Str.{bytes_eq}
 use Rattle.std.specs.Cmp.Lexicographic.{bytes_decides}
@@ -8,11 +9,11 @@ use Rattle.chord_classes.specs.Table.{Found, method_named}
 use Rattle.chord_classes.specs.declared.method.Method as rust_method
 use Rattle.chord_classes.specs.declared.owners.Owners.{Owners}
 use Rattle.chord_classes.specs.NamePlaces.{name_place_from, name_place}
-use Rattle.chord_classes.specs.MethodViews.{see_method}
+use Rattle.chord_classes.specs.MethodViews.{see_method, names_of}
 use Rattle.chord_classes.specs.Forks.{under, IsVersion, IsNextVersion}
-use Rattle.chord_classes.specs.Owned.{owner_in, IsOwned, IsOwning}
+use Rattle.chord_classes.specs.Owned.{owner_in, IsOwned, IsOwning, AddsNames}
 use Rattle.chord_classes.proofs.NamePlaces.{or_place, place_end}
-use Rattle.chord_classes.proofs.SharedForks.{version_of_more}
+use Rattle.chord_classes.proofs.SharedForks.{version_of_more, few_halves}
 use Rattle.chord_classes.proofs.GrownMethods.{map_end, named_joined}
 use Rattle.chord_classes.proofs.Search.{item_here}
 use Rattle.chord_classes.proofs.Facts.{same_some}
@@ -133,6 +134,19 @@ module _ (old new : Owners) (w : List ℕ) (version : Option ℕ) (place owner m
   pub owning_one : IsOwning old new version (Some made) (bytes_eq w) owner
   owning_one = record { stays = other_stays; same = other_same; is_owned = record { there = made_there; none = made_none }; each = made_each }
 
+  -- the new version took at most as many forks as the number of names has halves
+  few_more : (halves : ℕ) → length new.names < 2 ^ halves → length new.versions ≤ length old.versions + 1 * halves
+  few_more halves less =
+      let count = ap length next.forks in
+      let split = length-append old.versions next.more in
+      let most = few_halves (length next.more) place (length new.names) halves next.few place_less less in
+      let one = one-mul halves in
+      omega (arith, count, split, most, one)
+
+  -- one name came, and few forks
+  pub names_one : AddsNames old new (w ∷ [])
+  names_one = record { names = names; few = few_more }
+
 -- a place is found for each name that stands at the end
 pub place_there : (names more : List (List ℕ)) (w : List ℕ) → more ≡ names ++ (w ∷ []) → name_place more w ≡ None → ⊥
 place_there names more w e h = by_place (name_place names w) (sym (ap (λ z. name_place z w) e ∙ place_end names w w ∙ ap (λ z. or_place (name_place names w) (cond z (Some (length names)) None)) ((bytes_decides w w).1 refl)) ∙ h)
@@ -146,6 +160,23 @@ place_there names more w e h = by_place (name_place names w) (sym (ap (λ z. nam
 -- without a method nothing is added
 pub owning_none : (owners : Owners) (version : Option ℕ) (owner : ℕ) → IsOwned owners version → IsOwning owners owners version version (λ x. is_some (method_named [] x)) owner
 owning_none owners version owner known = record { stays = λ other o. o; same = λ other o x. refl; is_owned = known; each = λ x. refl }
+
+-- without a name nothing comes
+pub names_none : (owners : Owners) → AddsNames owners owners []
+names_none owners = record { names = sym (append-nil owners.names); few = λ halves less. let none = zero-mul halves in omega (arith, none) }
+
+-- names came, and then others
+pub names_more : (first mid last : Owners) (names more : List (List ℕ)) → AddsNames first mid names → AddsNames mid last more → AddsNames first last (names ++ more)
+names_more first mid last names more a b = record {
+  names = b.names ∙ ap (λ z. z ++ more) a.names ∙ append_assoc first.names names more;
+  few = λ halves less.
+      let count = ap length b.names in
+      let split = length-append mid.names more in
+      let before = a.few halves (omega (arith, count, split, less)) in
+      let after = b.few halves less in
+      let all : length (names ++ more) * halves ≡ length names * halves + length more * halves = ap (λ z. z * halves) (length-append names more) ∙ add-mul (length names) (length more) halves in
+      omega (arith, before, after, all);
+}
 
 -- one more is taken
 taken : {A : Type 0} (xs : List A) (i : ℕ) (x : A) (rest : List A) → drop i xs ≡ x ∷ rest → take (suc i) xs ≡ take i xs ++ (x ∷ [])
@@ -191,3 +222,12 @@ pub owning_next : (first mid last : Owners) (version made next : Option ℕ) (me
 owning_next first mid last version made next methods i method name owner l g same a b =
     subst (λ z. IsOwning first last version next (λ x. is_some (method_named (map see_method z) x)) owner) (sym (take_more methods i method (drop (i + 1) methods) (item_here methods i method l g)))
     (owning_more first mid last version made next (take i methods) method owner a (subst (λ z. IsOwning mid last made next (bytes_eq z) owner) same b))
+
+-- the name of the next of some methods came behind those before it
+pub names_next : (first mid last : Owners) (methods : List rust_method.Method) (i : ℕ) (method : rust_method.Method) (name : List ℕ)
+    → i < length methods → method ≡ get_or methods i method → name ≡ method.header.now.name.text
+    → AddsNames first mid (names_of (take i methods)) → AddsNames mid last (name ∷ []) → AddsNames first last (names_of (take (i + 1) methods))
+names_next first mid last methods i method name l g same a b =
+    subst (AddsNames first last)
+    (sym (ap names_of (take_more methods i method (drop (i + 1) methods) (item_here methods i method l g)) ∙ map_end (λ (m : rust_method.Method). m.header.now.name.text) (take i methods) method))
+    (names_more first mid last (names_of (take i methods)) (method.header.now.name.text ∷ []) a (subst (λ z. AddsNames mid last (z ∷ [])) same b))

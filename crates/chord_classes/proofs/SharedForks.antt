@@ -1,7 +1,8 @@
 -- Versions that share what they have in common.
 use Rattle.std.proofs.Common.{◌≡◌, ℕ, zero, suc, ◌+◌, ◌-◌, ◌*◌, ◌^◌, ◌<◌, ◌≤◌, ◌%◌, ◌/◌, ◌⊎◌, inl, inr, List, [], ◌∷◌, ◌++◌, Bool, true, false, cond, length, refl, sym, ap, subst, ◌∙◌, Option, Some, None, slice_get, arith, nat_eq, length-append}
 use mathlib.Core.List.{append_assoc}
-use Rattle.std.proofs.Math.Nat.{pow-suc}
+use Rattle.std.proofs.Math.Nat.{pow-suc, lt_of_not-le}
+use Rattle.std.proofs.Math.Pow.{pow_mono}
 use Rattle.std.proofs.lemmas.Bool.{eqb-true, eqb-false, eq-eqb, ne_eqb, true≢false, false≢true}
 use Rattle.chord_classes.specs.declared.versions.Fork.{Fork}
 use Rattle.chord_classes.specs.Forks.{empty_fork, fork_or_empty, fork_of, side, with_side, under_within, under, IsVersion, AreForks, IsFork, IsNextVersion}
@@ -281,6 +282,13 @@ made_below old mid new version below (suc k) value inner made n last c h pos sam
     next_at_more old mid new version k value inner made c w.closed h
     (subst (λ z. IsNextVersion old mid z (k / 2) value inner) (is ∙ ap (λ (m : Fork). side m (suc k)) same) (subst (λ z. IsNextVersion old mid below (z / 2) value inner) e w))
     (subst (λ z. IsFork mid new z made) (ends ∙ ap (λ (m : Fork). with_side m (suc k) (Some inner)) same) p)
+
+-- a version with one more number takes at most as many forks as a greater number has halves
+pub few_halves : (forks number count halves : ℕ) → 2 ^ forks ≤ 2 * (number + 1) → number < count → count < 2 ^ halves → forks ≤ halves
+few_halves forks number count halves few less within = let below : forks < suc halves = lt_of_not-le too_many in omega (arith, below)
+  where
+    too_many : suc halves ≤ forks → ⊥
+    too_many many = let more : 2 ^ suc halves ≤ 2 ^ forks = pow_mono many in let twice = pow-suc 2 halves in omega (arith, few, less, within, more, twice)
 
 -- the empty version has nothing, under any bound
 none_within : (bound : ℕ) (forks : List Fork) (k : ℕ) → under_within bound forks None k ≡ None

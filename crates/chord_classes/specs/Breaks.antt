@@ -21,13 +21,13 @@ every_rule rule = true
 abbrev pub KeepsEveryRule : ProgramTree → Type 0
 KeepsEveryRule p = IsFree every_rule p
 
--- Two families of rules, one of which each rule is of: the break of all is the first of theirs, and a family has at most one.
+-- Two families of rules, one of which each broken rule is of: the break of all is the first of theirs, and a family has at most one.
 pub record BreaksJoin (p : ProgramTree) (mine others : ℕ → Bool) : Type 0 where
   pub earlier : (r k s l : ℕ) → IsBreak mine p r k → IsBreak others p s l → IsNotAfter r k s l → IsBreak every_rule p r k
   pub resolved_alone : (r k : ℕ) → IsBreak mine p r k → IsFree others p → IsBreak every_rule p r k
   pub accepted : IsFree mine p → IsFree others p → KeepsEveryRule p
   pub only_one : (r k s l : ℕ) → IsBreak mine p r k → IsBreak mine p s l → (r ≡ s) × (k ≡ l)
 
--- This holds of every program and of two families of rules, one of which each rule is of.
+-- This holds of every program and of two families of rules, one of which each broken rule is of.
 abbrev pub AllJoin : Type 0
-AllJoin = (p : ProgramTree) (mine others : ℕ → Bool) → ((rule : ℕ) → (mine rule ≡ true) ⊎ (others rule ≡ true)) → BreaksJoin p mine others
+AllJoin = (p : ProgramTree) (mine others : ℕ → Bool) → ((rule at : ℕ) → Broken p rule at → (mine rule ≡ true) ⊎ (others rule ≡ true)) → BreaksJoin p mine others

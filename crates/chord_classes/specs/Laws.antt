@@ -1,4 +1,4 @@
--- What holds of programs that break none of the rules on names and types, and none on headers.
+-- What holds of every program, and of those that break none of the rules on names and types, on headers, or that a plan rests on.
 use Rattle.std.specs.Prelude.{◌≡◌, ℕ, List, true, false, Some, slice_get}
 use Rattle.chord_tree.specs.Tree.{BlockTree, HeaderTree, ChordMember, ClassTree, ProgramTree}
 use Rattle.chord_tree.specs.Program.{IsProgram}

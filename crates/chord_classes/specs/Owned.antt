@@ -1,8 +1,8 @@
 -- In which class a method is new, and what the table in memory keeps to find it.
-use Rattle.std.specs.Prelude.{◌≡◌, ℕ, ◌+◌, ◌<◌, ◌≤◌, List, map, length, slice_get, Bool, cond, Option, Some, None, is_some, option_map, option_and_then}
+use Rattle.std.specs.Prelude.{◌≡◌, ℕ, ◌+◌, ◌*◌, ◌^◌, ◌<◌, ◌≤◌, List, [], ◌++◌, map, flat_map, length, slice_get, Bool, cond, Option, Some, None, is_some, option_map, option_and_then}
 use Rattle.chord_classes.specs.Table.{Found, Shape, method_named, methods_at, derives}
 use Rattle.chord_classes.specs.NamePlaces.{name_place}
-use Rattle.chord_classes.specs.MethodViews.{see_method}
+use Rattle.chord_classes.specs.MethodViews.{see_method, names_of}
 use Rattle.chord_classes.specs.Forks.{under, IsVersion}
 use Rattle.chord_classes.specs.Entries.{AreEntries}
 use Rattle.chord_classes.specs.declared.versions.Fork.{Fork}
@@ -24,6 +24,19 @@ pub record IsOwning (old new : Owners) (version made : Option ℕ) (adds : List 
   pub same : (other : Option ℕ) → IsOwned old other → (name : List ℕ) → owner_in new other name ≡ owner_in old other name
   pub is_owned : IsOwned new made
   pub each : (name : List ℕ) → owner_in new made name ≡ cond (adds name) (Some owner) (owner_in old version name)
+
+-- names came behind those that were there, and for each at most as many forks as the number of names has halves
+pub record AddsNames (old new : Owners) (more : List (List ℕ)) : Type 0 where
+  pub names : new.names ≡ old.names ++ more
+  pub few : (halves : ℕ) → length new.names < 2 ^ halves → length new.versions ≤ length old.versions + length more * halves
+
+-- no names and no forks
+abbrev pub no_owners : Owners
+no_owners = record { names = []; versions = [] }
+
+-- the names of the methods that are new in the classes of entries
+abbrev pub new_names : List Entry → List (List ℕ)
+new_names entries = flat_map (λ (entry : Entry). names_of entry.own.all.items) entries
 
 -- a method, counted from a later number on
 abbrev pub shift : ℕ → Found → Found
@@ -67,7 +80,10 @@ pub record IsMapped (shapes : List Shape) (entries : List Entry) (lines : List F
   pub there : (name : List ℕ) (owner : ℕ) → owner_in owners entry.owned name ≡ Some owner → owner < length entries
   pub found : (name : List ℕ) → method_named (methods_at shapes class) name ≡ owned_method entries (owner_in owners entry.owned name) name
 
--- the table in memory: each entry is that of its class, and its versions are its class's
+-- the table in memory: each entry is that of its class, and its versions are its class's; it keeps a method's name once, where the method is new
 pub record IsShapeTable (shapes : List Shape) (entries : List Entry) (names : List (List ℕ)) (lines : List Fork) (owners : Owners) : Type 0 where
   pub are : AreEntries shapes entries names
   pub mapped : (class : ℕ) (entry : Entry) → slice_get entries class ≡ Some entry → IsMapped shapes entries lines owners class entry
+  pub owns : AddsNames no_owners owners (new_names entries)
+  -- a class takes at most as many forks as the number of classes has halves
+  pub few : (halves : ℕ) → length entries < 2 ^ halves → length lines ≤ length entries * halves

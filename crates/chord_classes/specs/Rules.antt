@@ -1,4 +1,4 @@
--- The rules on names and types and those on headers of one name, each of the whole program: the tokens at which it is broken.
+-- All rules, each of the whole program: the tokens at which it is broken.
 use Rattle.std.specs.Prelude.{◌≡◌, ℕ, List, [], ◌∷◌, Bool, true, Contains, length}
 use Rattle.chord_tree.specs.Tree.{ItemTree, MemberTree, ClassTree, ProgramTree}
 use Rattle.chord_tree.specs.Terms.{Term}

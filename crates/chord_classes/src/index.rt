@@ -3,9 +3,9 @@
 
 ghost use Rattle.std.specs.Prelude.{◌≡◌, IfOk, [], ◌∷◌, ◌++◌, length, map, is_some};
 ghost use Rattle.chord_classes.specs.Table.{method_named};
-ghost use Rattle.chord_classes.specs.MethodViews.{see_method};
+ghost use Rattle.chord_classes.specs.MethodViews.{see_method, names_of};
 ghost use Rattle.chord_classes.specs.Forks.{IsVersion, IsNextVersion};
-ghost use Rattle.chord_classes.specs.Owned.{IsOwned, IsOwning};
+ghost use Rattle.chord_classes.specs.Owned.{IsOwned, IsOwning, AddsNames};
 
 use crate::method::Method;
 use crate::names::Names;
@@ -59,6 +59,7 @@ impl<'a> Index<'a> {
         requires owned { IsOwned self.owners owned }
         ensures names { IfOk result (λ it. it.index.names ≡ self.entry.names ++ (name.now ∷ [])) }
         ensures line { IfOk result (λ it. IsNextVersion self.entry.lines it.index.lines line number number it.line) }
+        ensures added { IfOk result (λ it. AddsNames self.entry.owners it.index.owners (names_of methods.now)) }
         ensures owned { IfOk result (λ it. IsOwning self.entry.owners it.index.owners owned it.owned (λ x. is_some (method_named (map see_method methods.now) x)) number) }
     {
         let Index {

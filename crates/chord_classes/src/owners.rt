@@ -1,10 +1,10 @@
 //! In which class a method is new, by a version of its class and by its name.
 #![tactic(auto)]
 
-ghost use Rattle.std.specs.Prelude.{◌≡◌, IfOk, [], ◌∷◌, ◌++◌, map, is_some, bytes_eq};
+ghost use Rattle.std.specs.Prelude.{◌≡◌, IfOk, [], ◌∷◌, map, is_some, bytes_eq};
 ghost use Rattle.chord_classes.specs.Table.{method_named};
-ghost use Rattle.chord_classes.specs.MethodViews.{see_method};
-ghost use Rattle.chord_classes.specs.Owned.{IsOwned, IsOwning, owner_in};
+ghost use Rattle.chord_classes.specs.MethodViews.{see_method, names_of};
+ghost use Rattle.chord_classes.specs.Owned.{IsOwned, IsOwning, AddsNames, owner_in};
 
 use crate::method::Method;
 use crate::names::Names;
@@ -56,7 +56,7 @@ impl<'a> Owners<'a> {
         owner: u32,
     ) -> Result<Owning<'a>, AllocError>
         requires { IsOwned self version }
-        ensures names { IfOk result (λ owning. owning.owners.names ≡ self.entry.names ++ (name.now ∷ [])) }
+        ensures names { IfOk result (λ owning. AddsNames self.entry owning.owners (name.now ∷ [])) }
         ensures owning { IfOk result (λ owning. IsOwning self.entry owning.owners version owning.version (bytes_eq name.now) owner) }
     {
         let Owners {
@@ -83,7 +83,8 @@ pub fn with_methods<'a>(
     owner: u32,
 ) -> Result<Owning<'a>, AllocError>
     requires { IsOwned owners version }
-    ensures { IfOk result (λ owning. IsOwning owners.entry owning.owners version owning.version (λ x. is_some (method_named (map see_method methods.now) x)) owner) }
+    ensures names { IfOk result (λ owning. AddsNames owners.entry owning.owners (names_of methods.now)) }
+    ensures owning { IfOk result (λ owning. IsOwning owners.entry owning.owners version owning.version (λ x. is_some (method_named (map see_method methods.now) x)) owner) }
 {
     let mut owning = Owning { owners, version };
     for method in methods {

@@ -2,7 +2,7 @@
 use Rattle.std.proofs.Common.{◌≡◌, ℕ, ◌⊎◌, inl, inr, true, [], ◌∷◌, refl}
 use Rattle.chord_tree.specs.Tree.{ProgramTree}
 use Rattle.chord_classes.specs.Rules.{Broken, is_type_rule, C01, C02, C03, C04, C05, C06, C07, C08, C09, C10, C11, C12, C13, C14, C15, C16, C17, C18, C19, C20, C21, C22, C23, C24}
-use Rattle.chord_classes.proofs.Breaks.{families_join}
+use Rattle.chord_classes.proofs.Breaks.{all_join}
 use Rattle.chord_rules.specs.Family.{is_layout_rule, PassesJoin, PlanRulesKept}
 use Rattle.chord_rules.proofs.FirstBreak.{of_one}
 
@@ -40,7 +40,7 @@ turned_over (inr b) = inl b
 
 -- the break of all rules is the first of the two passes' breaks
 pub passes_join : PassesJoin
-passes_join p = (families_join p is_type_rule is_layout_rule (of_a_pass p), families_join p is_layout_rule is_type_rule (λ r k x. turned_over (of_a_pass p r k x)))
+passes_join p = (all_join p is_type_rule is_layout_rule (of_a_pass p), all_join p is_layout_rule is_type_rule (λ r k x. turned_over (of_a_pass p r k x)))
 
 -- the rule is one that a layout rests on
 abbrev IsLayoutRule : ℕ → Type 0

@@ -46,7 +46,7 @@ syntax_is_not_tall source j k a b =
 one_broken : AllJoin → (source : List ℕ) (r j s k : ℕ) → IsBroken source r j → IsBroken source s k → (r ≡ s) × (j ≡ k)
 one_broken joins source r j s k a b =
     let same = one_program source a.program b.program a.of_source b.of_source in
-    (joins b.program every_rule every_rule (λ rule. inl refl)).only_one r j s k (subst (λ z. IsBreak every_rule z r j) same a.first) b.first
+    (joins b.program every_rule every_rule (λ rule at broken. inl refl)).only_one r j s k (subst (λ z. IsBreak every_rule z r j) same a.first) b.first
 
 -- a source has at most one cause of a refusal
 pub one_cause : AllJoin → (source : List ℕ) (r s : Refusal) → IsCause source r → IsCause source s → r ≡ s

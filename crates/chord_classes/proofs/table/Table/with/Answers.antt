@@ -1,9 +1,9 @@
 use Rattle.std.proofs.Common.{◌≡◌, ◌++◌, ◌∷◌, [], sym, refl, ap, subst, ◌∙◌, arith, length, map, is_some}
 use Rattle.chord_tree.specs.View.{see_class}
 use Rattle.chord_classes.specs.Table.{shape_of, method_named}
-use Rattle.chord_classes.specs.MethodViews.{see_method}
+use Rattle.chord_classes.specs.MethodViews.{see_method, names_of}
 use Rattle.chord_classes.specs.Entries.{shapes_of}
-use Rattle.chord_classes.specs.Owned.{IsOwned, IsOwning, owned_at, line_at}
+use Rattle.chord_classes.specs.Owned.{IsOwned, IsOwning, AddsNames, owned_at, line_at}
 use Rattle.chord_classes.specs.Forks.{IsVersion, IsNextVersion}
 use Rattle.chord_classes.proofs.Adding.{shapes_more}
 use Rattle.chord_classes.proofs.Mapped.{table_extended, line_there, owned_there}
@@ -43,6 +43,7 @@ invariant_of-result c =
     (subst (λ z. IsOwning old.owners new.index.owners z new.owned (λ name. is_some (method_named (map see_method c.args.own.all.items) name)) (length entries.items)) (c.owned_at-owned.ensures ∙ ap (λ z. owned_at z c.args.base) c.deref-2.ensures.value)
     (subst (λ z. IsOwning old.owners new.index.owners c.owned_at-owned.result new.owned (λ name. is_some (method_named (map see_method z) name)) (length entries.items)) c.deref-3.ensures.value
     (subst (λ z. IsOwning old.owners new.index.owners c.owned_at-owned.result new.owned (λ name. is_some (method_named (map see_method c.deref-3.result.now) name)) z) number c.in_ok-index.ensures.owned)))
+    (subst (λ z. AddsNames old.owners new.index.owners (names_of z)) c.deref-3.ensures.value c.in_ok-index.ensures.added)
 
 pub returns : goal.returns
 returns c = ap shapes_of c.in_ok-push.ensures.items ∙ shapes_more c.self.inside.entries.items _ ∙ ap (λ z. z ++ (shape_of z (see_class c.args.class.now) ∷ [])) c.self.view_is
