@@ -56,7 +56,7 @@ step_begun code limits sig src fits local plan =
           elim (either (0 == x)) [
             | inl y ↦
                 (let z = eqb-true 0 x y in
-                rw y (subst (λ v. BodyPlays code limits sig src (own_entry 0 0 Begun ∷ []) v (Ready Main 1 [])) z (playing_begins code limits sig src fits (own_entry 0 0 Begun ∷ []) 0 Main 1 None local plan.main (inl refl) (omega arith))))
+                rw y (subst (λ v. BodyPlays code limits sig src (own_entry 0 0 Begun ∷ []) v (Ready Main 1 [])) z (playing_begins code limits sig src fits (own_entry 0 0 Begun ∷ []) 0 Main 1 None local plan.main (inl (refl, refl)) (omega arith))))
             | inr o ↦ rw o tt
           ];
     }

@@ -1,8 +1,9 @@
 -- The frames in stock, and those of bodies that have ended, once an ask became an entry.
-use Rattle.std.proofs.Common.{◌≡◌, true, false, Option, None, Some, refl, sym, ap, ◌∙◌, subst, Box, Global, Vec, ◌<◌, vec_len, vec_capacity}
+use Rattle.std.proofs.Common.{◌≡◌, ℕ, true, false, Option, None, Some, refl, sym, ap, ◌∙◌, subst, Box, Global, Vec, vec_len, vec_capacity}
 use Rattle.chord_base.specs.declared.event.End.{End}
 use Rattle.chord_base.specs.declared.event.What.{What}
 use Rattle.chord_base.specs.Printed.{is_end}
+use Rattle.chord_base.specs.Room.{HasGrown}
 use Rattle.chord_code.specs.declared.parts.Parts.{Parts}
 use Rattle.chord_vm.specs.Frames.{what_of_ask}
 use Rattle.chord_vm.specs.declared.ask.Ask.{Ask}
@@ -42,9 +43,9 @@ end_of o a b put e =
     let same : a ≡ b = cc in
     ap (λ (x : Ask). is_end (what_of_ask x)) same
 
--- callers for which there was room have as much afterwards
-same_room : (code : Parts) (t s t' : Task) → HasMadeRoom code t s → vec_capacity t'.below ≡ vec_capacity s.below → vec_len t.below < vec_capacity t.below → vec_capacity t'.below ≡ vec_capacity t.below
-same_room code t s t' m callers room = callers ∙ ap (λ (v : Vec Caller Global). vec_capacity v) (m.room room)
+-- once room was made, the list of callers has grown as it may, also where it was only moved on
+grown_on : (code : Parts) (t s t' : Task) → HasMadeRoom code t s → vec_capacity t'.below ≡ vec_capacity s.below → HasGrown (vec_len t.below) (vec_capacity t.below) (vec_capacity t'.below)
+grown_on code t s t' m callers = subst (λ (z : ℕ). HasGrown (vec_len t.below) (vec_capacity t.below) z) (sym callers) m.callers
 
 -- an ask that ends no body was settled
 pub settles_on : (code : Parts) (t s t' : Task) (o : Option Ask) (a b : Ask) → o ≡ Some b → is_end (what_of_ask b) ≡ false → o ≡ Some a → HasMadeRoom code t s → vec_capacity t'.below ≡ vec_capacity s.below → t'.values ≡ s.values → t'.spare ≡ s.spare → t'.ended ≡ s.ended → SettlesFrames code t (what_of_ask a) t'
@@ -56,7 +57,7 @@ settles_on code t s t' o a b put goes_on e m callers values spare ended =
       list = m.list;
       kept = kept_on (what_of_ask a) s t' (end_of o a b put e ∙ goes_on) values spare ended;
       frames = m.frames;
-      callers = same_room code t s t' m callers;
+      callers = grown_on code t s t' m callers;
     }
 
 -- an end was settled
@@ -69,7 +70,7 @@ settles_end code t s t' o a x put e m callers values spare ended =
       list = m.list;
       kept = keeps_ended (what_of_ask a) s t' (end_of o a (ask.End x) put e) values spare ended;
       frames = m.frames;
-      callers = same_room code t s t' m callers;
+      callers = grown_on code t s t' m callers;
     }
 
 -- more room leaves the number of the body on top as it was
@@ -93,8 +94,8 @@ settled_stock code t t' b f w is x =
     }
 
 -- frames and a list were seen to in a task whose frames and list were as they are, before its ask became an entry
-pub kept_stock : (code : Parts) (t r s t' : Task) (w : What) → r.limits ≡ t.limits → KeepsStock t r → body_number s.top ≡ body_number t.top → IsStocked code r.limits r.spare r.ended s.spare s.ended → LosesNothing code r s → KeepsFrames w s t' → vec_capacity t'.below ≡ vec_capacity s.below → WasStocked code t w t'
-kept_stock code t r s t' w limited same top x lost kept callers =
+pub kept_stock : (code : Parts) (t r s t' : Task) (w : What) → r.limits ≡ t.limits → KeepsStock t r → body_number s.top ≡ body_number t.top → IsStocked code r.limits r.spare r.ended s.spare s.ended → LosesNothing code r s → HasGrown (vec_len r.below) (vec_capacity r.below) (vec_capacity s.below) → KeepsFrames w s t' → vec_capacity t'.below ≡ vec_capacity s.below → WasStocked code t w t'
+kept_stock code t r s t' w limited same top x lost grown kept callers =
     let under : IsStocked code t.limits r.spare r.ended s.spare s.ended = subst (λ (l : Limits). IsStocked code l r.spare r.ended s.spare s.ended) limited x in
     let from : IsStocked code t.limits t.spare r.ended s.spare s.ended = subst (λ (z : Option (Box Frames Global)). IsStocked code t.limits z r.ended s.spare s.ended) same.0 under in
     record {
@@ -104,5 +105,7 @@ kept_stock code t r s t' w limited same top x lost kept callers =
       list = λ some. lost.list (λ none. some (sym same.2 ∙ none)) ∙ same.2;
       kept = kept;
       frames = subst (λ (z : Option (Box Frames Global)). LosesNoFrames t.spare z s.spare s.ended) same.1 (subst (λ (z : Option (Box Frames Global)). LosesNoFrames z r.ended s.spare s.ended) same.0 lost.frames);
-      callers = λ room. callers ∙ ap (λ (v : Vec Caller Global). vec_capacity v) (lost.room (subst (λ (v : Vec Caller Global). vec_len v < vec_capacity v) (sym same.3) room) ∙ same.3);
+      callers =
+          subst (λ (v : Vec Caller Global). HasGrown (vec_len v) (vec_capacity v) (vec_capacity t'.below)) same.3
+          (subst (λ (z : ℕ). HasGrown (vec_len r.below) (vec_capacity r.below) z) (sym callers) grown);
     }

@@ -23,6 +23,7 @@ use Rattle.chord_vm.specs.Frames.{machine_of, waiting_of, what_of_ask, Advanced,
 use Rattle.chord_vm.specs.declared.ask.Ask.{Ask}
 use Rattle.chord_task.specs.Arguments.{IsList, MayBeList}
 use Rattle.chord_base.specs.Printed.{is_end}
+use Rattle.chord_base.specs.Room.{HasGrown}
 use Rattle.chord_task.specs.declared.body.Next.{Next}
 use Rattle.chord_task.specs.declared.body.Next.TheVariants as nexts
 use Rattle.chord_task.specs.declared.body.Body.{Body}
@@ -408,7 +409,7 @@ abbrev pub MainBegins : Parts → Limits → Type 0
 MainBegins code limits = IsSome ((code_program code limits).next Main 1 [])
 
 -- frames for the next body were seen to, and none were lost; a list of values that was there stayed. Then this ask became an entry, and the frames of the body that
--- it ended, if it is an end, are kept; where there was room for one more caller, there is as much as before
+-- it ended, if it is an end, are kept. The list of callers has grown as it may
 pub record SettlesFrames (code : Parts) (before : Task) (w : What) (after : Task) : Type 0 where
   pub between : Task
   pub roomier : IsRoomierTop before.top between.top
@@ -419,7 +420,7 @@ pub record SettlesFrames (code : Parts) (before : Task) (w : What) (after : Task
   pub callers : HasGrown (vec_len before.below) (vec_capacity before.below) (vec_capacity after.below)
 
 -- frames for the next body were seen to, and none were lost; a list of values that was there stayed, and the body of that number stayed on top. Then this ask became
--- an entry, and the frames that were on top are kept, if it is an end; where there was room for one more caller, there is as much as before
+-- an entry, and the frames that were on top are kept, if it is an end. The list of callers has grown as it may
 pub record WasStocked (code : Parts) (before : Task) (w : What) (after : Task) : Type 0 where
   pub between : Task
   pub top : body_number between.top ≡ body_number before.top

@@ -30,9 +30,7 @@ use chord_base::value::{Object, Value, Values};
 use chord_code::code::Code;
 use chord_code::parts::ChordLine;
 use chord_vm::ask::Ask;
-use chord_vm::frames::{
-    Frames, begin, begin_with, can_begin, reserve as reserve_frames, spare as spare_frames,
-};
+use chord_vm::frames::{Frames, begin, begin_with, blank, can_begin, reserve as reserve_frames};
 use std::alloc::{AllocError, Global};
 use std::mem;
 
@@ -92,7 +90,7 @@ fn new_frames(alloc: Global, code: &Code, limits: &Limits) -> Result<Box<Frames>
     ensures spare { IfOk result (λ f. IsSpareOf code.now limits.now f.value) }
     ensures lean { IfOk result (λ f. AreBlank code.now f.value) }
 {
-    let frames = spare_frames(alloc, code, limits)?;
+    let frames = blank(alloc, code, limits)?;
     let boxed = Box::new(alloc, frames)?;
     Ok(boxed)
 }

@@ -3,6 +3,7 @@
 
 ghost use Rattle.std.specs.Prelude.{◌≡◌, ◌≢◌, ℕ, List, ◌<◌, ◌≤◌, ◌++◌, ◌∷◌, [], IfOk, OnOk, IsOk, None, Some, true, length, vec_len, vec_capacity};
 ghost use Rattle.chord_base.specs.declared.event.End.{End as AnEnd};
+ghost use Rattle.chord_base.specs.Room.{HasGrown};
 ghost use Rattle.chord_code.specs.Meaning.{code_program};
 ghost use Rattle.chord_vm.specs.Frames.{what_of_ask};
 ghost use Rattle.chord_task.specs.declared.body.Body.{Body as ABody};

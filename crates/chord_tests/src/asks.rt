@@ -11,7 +11,7 @@ use chord_base::hand::Hand;
 use chord_base::value::Value;
 use chord_code::code::Code;
 use chord_vm::ask::Ask;
-use chord_vm::frames::{Frames, answer, begin, reserve, spare};
+use chord_vm::frames::{Frames, answer, begin, blank, reserve};
 use chord_vm::step::advance;
 use std::alloc::{AllocError, Global};
 use std::test::Fail;
@@ -43,7 +43,7 @@ fn ends(alloc: Global, code: &Code, frames: &mut Frames) -> Result<bool, AllocEr
 fn asks(alloc: Global, code: &Code) -> Result<(Option<usize>, bool), AllocError>
     requires { code.now ≡ seven_code }
 {
-    let mut frames = spare(alloc, code, &LIMITS)?;
+    let mut frames = blank(alloc, code, &LIMITS)?;
     begin(code, &mut frames, 0, Value::Unit, Hand::new(), 1);
     let length = line(alloc, code, &mut frames)?;
     let ended = ends(alloc, code, &mut frames)?;

@@ -117,6 +117,14 @@ ran_first code n (Goes k) m' e = (k, refl, e)
 ran_first code n (Asking a w) m' e = cc
 ran_first code n Bad m' e = cc
 
+-- instructions behind others
+pub ran_on : (code : Parts) (n k : ℕ) (m m' : Machine) (d : Did) → run code n m ≡ Goes m' → run code k m' ≡ d → (j : ℕ) × (run code j m ≡ d)
+ran_on code zero k m m' d e r = (k, (let same : m ≡ m' = cc in subst (λ (x : Machine). run code k x ≡ d) (sym same) r))
+ran_on code (suc n) k m m' d e r =
+    let f = ran_first code n (step code m) m' e in
+    let t = ran_on code n k f.0 m' d f.2 r in
+    (suc t.0, first_of code t.0 m f.0 d f.1 t.1)
+
 -- an instruction that goes on is there
 did_some : (code : Parts) (m k : Machine) (o : Option Instruction) → act code o m ≡ Goes k → (i : Instruction) × (o ≡ Some i)
 did_some code m k None e = cc
@@ -277,6 +285,7 @@ pub record IsAtWork (code : Parts) (start : Frames) (xs : List Instruction) (f :
   pub fits : f.top.place + 1 < 2 ^ 64
   pub defined : ComesToAsk code (machine_of f)
   pub goes_on : (a : Ask) (g : Frames) → Advanced code (machine_of f) a g → Advanced code (machine_of start) a g
+  pub came : (n : ℕ) × (run code n (machine_of start) ≡ Goes (machine_of f))
   pub empty : asked ≡ None
 
 -- a run at work still is after instructions that go on
@@ -288,5 +297,6 @@ works_on code n start xs xs' f f' i i' asked asked' w ran here fetched within fi
   fits = fits;
   defined = ran_defined code n (machine_of f) (machine_of f') ran w.defined;
   goes_on = λ a g h. w.goes_on a g (ran_advanced code n (machine_of f) (machine_of f') a g ran h);
+  came = ran_on code w.came.0 n (machine_of start) (machine_of f) (Goes (machine_of f')) w.came.1 ran;
   empty = empty;
 }

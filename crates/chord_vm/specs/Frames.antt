@@ -1,5 +1,5 @@
 -- What the frames of a body stand for.
-use Rattle.std.specs.Prelude.{◌≡◌, ◌<◌, ◌≤◌, vec_len, vec_capacity, length, ℕ, suc, List, [], ◌∷◌, ◌++◌, Bool, true, false, Option, Some, None, map, reverse, slice_get}
+use Rattle.std.specs.Prelude.{◌≡◌, ◌⊎◌, ◌<◌, ◌≤◌, vec_len, vec_capacity, length, ℕ, suc, List, [], ◌∷◌, ◌++◌, Bool, true, false, Option, Some, None, map, reverse, slice_get}
 use Rattle.chord_vm.specs.declared.frames.Frame as declared_frame
 use Rattle.chord_vm.specs.declared.frames.Frames.{Frames}
 use Rattle.chord_vm.specs.declared.ask.Ask.{Ask}
@@ -18,7 +18,7 @@ use Rattle.chord_code.specs.declared.parts.Block.{Block}
 use Rattle.chord_code.specs.declared.instruction.Instruction.{Instruction}
 use Rattle.chord_code.specs.declared.instruction.Instruction.TheVariants as instr
 use Rattle.chord_code.specs.Slots.{IsMostSlots}
-use Rattle.chord_code.specs.Machine.{Frame, Machine, Waiting, Did, Goes, Asking, pops, ComesTo}
+use Rattle.chord_code.specs.Machine.{Frame, Machine, Waiting, Did, Goes, Asking, fetch, pops, run, ComesTo}
 
 -- a frame's stack grows at its end
 abbrev pub shown_frame : declared_frame.Frame → Frame
@@ -61,6 +61,23 @@ abbrev pub changes_block : Instruction → Bool
 changes_block (instr.Init c) = true
 changes_block instr.Back = true
 changes_block _ = false
+
+-- The instructions that may take memory: those that push a value, by which the operands may need more room, that make a text or hand one on, that begin a builder, and those that send or call with several values. No other fails for want of it, and so no trap but that of a text that is too long is told as such a want.
+abbrev pub takes_memory : Instruction → Bool
+takes_memory (instr.Int n) = true
+takes_memory (instr.Flag b) = true
+takes_memory (instr.Text t) = true
+takes_memory (instr.Load i) = true
+takes_memory instr.Cat = true
+takes_memory (instr.Init c) = true
+takes_memory instr.Print = true
+takes_memory (instr.Send j (suc (suc n))) = true
+takes_memory (instr.Call j (suc (suc n))) = true
+takes_memory _ = false
+
+-- the machine comes to an instruction that may take memory
+abbrev pub RunsOut : Parts → Machine → Type 0
+RunsOut code m = (n : ℕ) × (k : Machine) × (i : Instruction) × (run code n m ≡ Goes k) × (fetch code k.top.block k.top.place ≡ Some i) × (takes_memory i ≡ true)
 
 -- the instructions of a block, if it is there
 abbrev pub instructions_of : Option Block → Option (List Instruction)
@@ -134,12 +151,17 @@ IsReady (ForObject None n) f = vec_len f.top.stack < vec_capacity f.top.stack
 IsReady (ForObject (Some b) n) f =
     (vec_len f.top.stack < vec_capacity f.top.stack) × (vec_len f.below < vec_capacity f.below) × HasRoom f.builder b.1
 
--- the builder's frame stays where it has room for what is awaited; where no builder is, it stays in any case, and so do the blocks that wait
+-- a builder's frame that was just made: it has room for so many slots, and for no operand
+abbrev pub IsLeanBuilder : ℕ → Option declared_frame.Frame → Type 0
+IsLeanBuilder n None = ⊥
+IsLeanBuilder n (Some f) = (vec_capacity f.slots ≡ n) × (vec_capacity f.stack ≡ 0)
+
+-- The builder's frame stays where it has room for what is awaited; where it has none, it stays or is made with that room and no more. Where no builder is awaited, it stays in any case, and so do the blocks that wait.
 abbrev pub KeepsBuilder : Awaited → Frames → Frames → Type 0
 KeepsBuilder ForNothing f f' = (f'.below ≡ f.below) × (f'.builder ≡ f.builder)
 KeepsBuilder ForValue f f' = (f'.below ≡ f.below) × (f'.builder ≡ f.builder)
 KeepsBuilder (ForObject None n) f f' = (f'.below ≡ f.below) × (f'.builder ≡ f.builder)
-KeepsBuilder (ForObject (Some b) n) f f' = HasRoom f.builder b.1 → f'.builder ≡ f.builder
+KeepsBuilder (ForObject (Some b) n) f f' = (HasRoom f.builder b.1 → f'.builder ≡ f.builder) × ((f'.builder ≡ f.builder) ⊎ IsLeanBuilder b.1 f'.builder)
 
 -- slots and limits are as they were, and so are operands, blocks that wait and the builder's frame, where there was room for one more
 pub record KeepsRoom (before after : Frames) : Type 0 where
@@ -148,6 +170,11 @@ pub record KeepsRoom (before after : Frames) : Type 0 where
   pub slots : after.top.slots ≡ before.top.slots
   pub limits : after.limits ≡ before.limits
   pub builder : KeepsBuilder before.awaited before after
+
+-- each list of the frames has as much room as before, and the builder's frame is as it was
+abbrev pub KeepsLists : Frames → Frames → Type 0
+KeepsLists f f' =
+    (vec_capacity f'.top.slots ≡ vec_capacity f.top.slots) × (vec_capacity f'.top.stack ≡ vec_capacity f.top.stack) × (vec_capacity f'.below ≡ vec_capacity f.below) × (f'.builder ≡ f.builder)
 
 -- the n last values of one list went to the end of another
 abbrev pub IsMoved : ℕ → List Value → List Value → List Value → List Value → Type 0

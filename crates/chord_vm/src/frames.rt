@@ -1,12 +1,12 @@
 //! The frames of one body: its blocks at work, and how they begin and are answered without memory.
 #![tactic(auto)]
 
-ghost use Rattle.std.specs.Prelude.{◌≡◌, ◌≢◌, suc, ◌+◌, ◌-◌, ◌^◌, ◌<◌, ◌≤◌, true, false, List, [], ◌∷◌, ◌++◌, IfOk, IsOk, OnOk, All, Some, None, length, slice_get, vec_len, vec_capacity, reverse, replicate};
+ghost use Rattle.std.specs.Prelude.{◌≡◌, ◌≢◌, ◌⊎◌, suc, ◌+◌, ◌-◌, ◌^◌, ◌<◌, ◌≤◌, true, false, List, [], ◌∷◌, ◌++◌, IfOk, IsOk, OnOk, All, Some, None, length, slice_get, vec_len, vec_capacity, reverse, replicate};
 ghost use Rattle.chord_base.specs.Copies.{IsAlwaysCopied};
 ghost use Rattle.chord_base.specs.Room.{HasGrown};
 ghost use Rattle.chord_code.specs.Slots.{first_slots};
 ghost use Rattle.chord_code.specs.Machine.{body_in_block, with_answer, with_object, init_by, goes_back, pops, Bad, Goes};
-ghost use Rattle.chord_vm.specs.Frames.{shown_frame, machine_of, frame_with, IsSpacious, IsReady, HasRoom, KeepsRoom, IsInStock, IsMoved, IsRoomFor, AreBlank, laid};
+ghost use Rattle.chord_vm.specs.Frames.{shown_frame, machine_of, frame_with, IsSpacious, IsReady, HasRoom, KeepsRoom, IsInStock, IsLeanBuilder, KeepsLists, IsMoved, IsRoomFor, AreBlank, laid};
 
 use chord_base::event::Limits;
 use chord_base::hand::Hand;
@@ -50,7 +50,7 @@ pub struct Frames {
 }
 
 /// Frames of no body, with room to begin any block of the code. They hold nothing, and have no other room.
-pub fn spare(alloc: Global, code: &Code, limits: &Limits) -> Result<Frames, AllocError>
+pub fn blank(alloc: Global, code: &Code, limits: &Limits) -> Result<Frames, AllocError>
     ensures room { IfOk result (λ frames. IsRoomFor code.now frames) }
     ensures limits { IfOk result (λ frames. frames.limits ≡ limits.now) }
     ensures lean { IfOk result (λ frames. AreBlank code.now frames) }
@@ -203,6 +203,7 @@ fn fill_from(slots: &mut Vec<Value>, n: usize, this: Value, arguments: Hand<Valu
     requires fits { first_slots n (this ∷ laid arguments) ≢ None }
     requires room { n ≤ vec_capacity slots.old }
     ensures filled { first_slots n (this ∷ laid arguments) ≡ Some slots.new.items }
+    ensures capacity { vec_capacity slots.new ≡ vec_capacity slots.old }
 {
     let mut arguments = arguments;
     slots.truncate(0);
@@ -284,6 +285,7 @@ fn fill_with(
     requires room { n ≤ vec_capacity slots.old }
     ensures filled { OnOk result (first_slots n (this ∷ values.now) ≡ Some slots.new.items) }
     ensures short { All IsAlwaysCopied values.now → IsOk result }
+    ensures capacity { vec_capacity slots.new ≡ vec_capacity slots.old }
 {
     clear(slots);
     slots.push_reserved(this);
@@ -299,6 +301,7 @@ fn open(frames: &mut Frames, block: usize, depth: u32)
     ensures opened { machine_of frames.new ≡ record { top = record { block = block; place = 0; room = frames.old.limits.depth - depth; stack = []; slots = frames.old.top.slots.items }; below = []; turns = frames.old.limits.turns } }
     ensures awaits { frames.new.awaited ≡ Awaited.ForNothing }
     ensures limits { frames.new.limits ≡ frames.old.limits }
+    ensures room { KeepsLists frames.old frames.new }
 {
     frames.top.stack.truncate(0);
     frames.below.truncate(0);
@@ -323,6 +326,7 @@ pub fn begin(
     ensures begun { body_in_block code.now block (frames.old.limits.depth - depth) (this ∷ laid arguments) frames.old.limits.turns ≡ Some (machine_of frames.new) }
     ensures awaits { frames.new.awaited ≡ Awaited.ForNothing }
     ensures limits { frames.new.limits ≡ frames.old.limits }
+    ensures room { KeepsLists frames.old frames.new }
 {
     let block = block as usize;
     let slots = code.parts().blocks.items()[block].slots as usize;
@@ -347,6 +351,7 @@ pub fn begin_with(
     ensures begun { OnOk result (body_in_block code.now block (frames.old.limits.depth - depth) (this ∷ arguments.now) frames.old.limits.turns ≡ Some (machine_of frames.new)) }
     ensures awaits { OnOk result (frames.new.awaited ≡ Awaited.ForNothing) }
     ensures limits { frames.new.limits ≡ frames.old.limits }
+    ensures room { KeepsLists frames.old frames.new }
     ensures short { All IsAlwaysCopied arguments.now → IsOk result }
 {
     let block = block as usize;
@@ -365,6 +370,7 @@ pub fn reserve(alloc: Global, frames: &mut Frames) -> Result<(), AllocError>
     ensures kept { KeepsRoom frames.old frames.new }
     ensures idle { vec_len frames.old.top.stack < vec_capacity frames.old.top.stack → IsReady frames.old.awaited frames.old → (IsOk result) × (frames.new ≡ frames.old) }
     ensures grown { OnOk result (HasGrown (vec_len frames.old.top.stack) (vec_capacity frames.old.top.stack) (vec_capacity frames.new.top.stack)) }
+    ensures blocks { OnOk result ((frames.new.below ≡ frames.old.below) ⊎ HasGrown (vec_len frames.old.below) (vec_capacity frames.old.below) (vec_capacity frames.new.below)) }
 {
     reserve_one(&mut frames.top.stack)?;
     match frames.awaited {
@@ -392,6 +398,7 @@ fn reserve_builder(alloc: Global, frames: &mut Frames, slots: u32) -> Result<(),
     ensures top { frames.new.top ≡ frames.old.top }
     ensures stays { vec_len frames.old.below < vec_capacity frames.old.below → frames.new.below ≡ frames.old.below }
     ensures builder { HasRoom frames.old.builder slots → frames.new.builder ≡ frames.old.builder }
+    ensures lean { (frames.new.builder ≡ frames.old.builder) ⊎ IsLeanBuilder slots frames.new.builder }
     ensures idle { vec_len frames.old.below < vec_capacity frames.old.below → HasRoom frames.old.builder slots → (IsOk result) × (frames.new ≡ frames.old) }
     ensures grown { OnOk result (HasGrown (vec_len frames.old.below) (vec_capacity frames.old.below) (vec_capacity frames.new.below)) }
     ensures limits { frames.new.limits ≡ frames.old.limits }
@@ -531,6 +538,7 @@ fn fill_moved(slots: &mut Vec<Value>, n: usize, this: Value, values: Values)
     requires fits { first_slots n (this ∷ values) ≢ None }
     requires room { n ≤ vec_capacity slots.old }
     ensures filled { first_slots n (this ∷ values) ≡ Some slots.new.items }
+    ensures capacity { vec_capacity slots.new ≡ vec_capacity slots.old }
 {
     clear(slots);
     slots.push_reserved(this);
@@ -554,6 +562,7 @@ pub fn begin_moved(
     ensures begun { body_in_block code.now block (frames.old.limits.depth - depth) (this ∷ arguments) frames.old.limits.turns ≡ Some (machine_of frames.new) }
     ensures awaits { frames.new.awaited ≡ Awaited.ForNothing }
     ensures limits { frames.new.limits ≡ frames.old.limits }
+    ensures room { KeepsLists frames.old frames.new }
 {
     let block = block as usize;
     let slots = code.parts().blocks.items()[block].slots as usize;

@@ -1,17 +1,17 @@
 //! The instructions of a block at work.
 #![tactic(auto)]
 
-ghost use Rattle.std.specs.Prelude.{◌≡◌, ◌≢◌, ◌⊎◌, suc, ◌+◌, ◌^◌, ◌<◌, ◌≤◌, true, false, [], Option, IfOk, OnOk, Some, None, slice_get};
+ghost use Rattle.std.specs.Prelude.{◌≡◌, ◌≢◌, ◌⊎◌, suc, ◌+◌, ◌^◌, ◌<◌, ◌≤◌, true, false, [], Option, IfOk, OnOk, OnErr, Some, None, slice_get};
 ghost use Rattle.chord_base.specs.Operators.{text_of};
 ghost use Rattle.chord_code.specs.Valid.{IsValid};
 ghost use Rattle.chord_code.specs.Within.{IsInstructionWithin};
 ghost use Rattle.chord_code.specs.Machine.{Did, Goes, step as step_of, Bad, act, operate as operate_of, negates, denies, skips, again as again_of, if_deeper, makes_object, builder_of, init_by, fetch, ComesToAsk, loads, store_top, pops, pop_top, send_by, call_by, print_top, end_with};
-ghost use Rattle.chord_vm.specs.Frames.{shown_frame, machine_of, HasStepped, frame_with, Advanced, changes_block, instructions_in, with_pushed};
+ghost use Rattle.chord_vm.specs.Frames.{shown_frame, machine_of, HasStepped, frame_with, Advanced, changes_block, instructions_in, with_pushed, takes_memory, RunsOut};
 ghost use Rattle.chord_vm.specs.declared.frames.Frames.{Frames as TheFrames};
 ghost use Rattle.chord_vm.specs.declared.ask.Ask.{Ask as AnAsk};
 
 use crate::ask::{Ask, clear_ask, put_ask};
-use crate::frames::{Frames, back, enter, move_last, push, push_reserved, take};
+use crate::frames::{Frame, Frames, back, enter, move_last, push, push_reserved, take};
 use crate::fused::{AtOnce, load_at_once, stores_at_once};
 use crate::numbers::{operate_on, operator_of, put_value};
 use chord_base::event::{End, Limits, Trap};
@@ -40,7 +40,7 @@ enum After {
 /// The body goes on, if memory was found.
 #[inline(always)]
 fn went(done: Result<(), AllocError>) -> After
-    ensures { (d : Did) (f : TheFrames) (asked : Option AnAsk) → OnOk done (d ≡ Goes (machine_of f)) → HasStepped d result asked f }
+    ensures stepped { (d : Did) (f : TheFrames) (asked : Option AnAsk) → OnOk done (d ≡ Goes (machine_of f)) → HasStepped d result asked f }
 {
     match done {
         Ok(()) => After::Goes,
@@ -89,6 +89,7 @@ fn step(
     ensures stepped { HasStepped (act parts.now (Some instruction.now) (machine_of frames.old)) result asked.new frames.new }
     ensures unasked { result ≢ After.Asks → asked.new ≡ asked.old }
     ensures stays { result ≡ After.Goes → changes_block instruction.now ≡ false }
+    ensures lean { result ≡ After.Fails → takes_memory instruction.now ≡ true }
 {
     match instruction {
         Instruction::Int(number) => return went(push_value(frames, Value::Int(*number))),
@@ -97,8 +98,8 @@ fn step(
         Instruction::Load(slot) => return went(load(alloc, frames, *slot as usize)),
         Instruction::Store(slot) => store(frames, *slot as usize),
         Instruction::Drop => drop_top(frames),
-        Instruction::Neg => return went(negated_top(frames)),
-        Instruction::Not => return went(denied_top(frames)),
+        Instruction::Neg => negated_top(frames),
+        Instruction::Not => denied_top(frames),
         Instruction::Add => return operate(alloc, frames, Operation::Add, asked),
         Instruction::Sub => return operate(alloc, frames, Operation::Subtract, asked),
         Instruction::Mul => return operate(alloc, frames, Operation::Multiply, asked),
@@ -156,6 +157,7 @@ fn end_with_top(frames: &mut Frames, asked: &mut Option<Ask>) -> After
     requires empty { asked.old ≡ None }
     ensures stepped { HasStepped (end_with (machine_of frames.old) (machine_of frames.old).top.stack) result asked.new frames.new }
     ensures unasked { result ≢ After.Asks → asked.new ≡ asked.old }
+    ensures never { result ≢ After.Fails }
 {
     let value = take(&mut frames.top);
     put_ask(asked, Ask::End(End::Gives(value)));
@@ -194,24 +196,24 @@ fn push_value(frames: &mut Frames, value: Value) -> Result<(), AllocError>
 
 /// `neg`.
 #[inline(never)]
-fn negated_top(frames: &mut Frames) -> Result<(), AllocError>
+fn negated_top(frames: &mut Frames)
     requires fits { frames.old.top.place + 1 < 2 ^ 64 }
     requires sound { negates (machine_of frames.old) (machine_of frames.old).top.stack ≢ Bad }
-    ensures { OnOk result (negates (machine_of frames.old) (machine_of frames.old).top.stack ≡ Goes (machine_of frames.new)) }
+    ensures { negates (machine_of frames.old) (machine_of frames.old).top.stack ≡ Goes (machine_of frames.new) }
 {
     let value = take(&mut frames.top);
-    push(&mut frames.top, negate(value))
+    push_reserved(&mut frames.top, negate(value));
 }
 
 /// `not`.
 #[inline(never)]
-fn denied_top(frames: &mut Frames) -> Result<(), AllocError>
+fn denied_top(frames: &mut Frames)
     requires fits { frames.old.top.place + 1 < 2 ^ 64 }
     requires sound { denies (machine_of frames.old) (machine_of frames.old).top.stack ≢ Bad }
-    ensures { OnOk result (denies (machine_of frames.old) (machine_of frames.old).top.stack ≡ Goes (machine_of frames.new)) }
+    ensures { denies (machine_of frames.old) (machine_of frames.old).top.stack ≡ Goes (machine_of frames.new) }
 {
     let value = take(&mut frames.top);
-    push(&mut frames.top, deny(value))
+    push_reserved(&mut frames.top, deny(value));
 }
 
 /// The text that a value prints. A text is moved.
@@ -317,6 +319,7 @@ fn operate(
     requires empty { asked.old ≡ None }
     ensures stepped { HasStepped (operate_of operation (machine_of frames.old) (machine_of frames.old).top.stack) result asked.new frames.new }
     ensures unasked { result ≢ After.Asks → asked.new ≡ asked.old }
+    ensures lean { operation ≢ Operation.Join → result ≢ After.Fails }
 {
     let right = take(&mut frames.top);
     let left = take(&mut frames.top);
@@ -352,6 +355,7 @@ fn again(frames: &mut Frames, to: usize, asked: &mut Option<Ask>) -> After
     requires empty { asked.old ≡ None }
     ensures stepped { HasStepped (again_of to (machine_of frames.old) (machine_of frames.old).top.stack) result asked.new frames.new }
     ensures unasked { result ≢ After.Asks → asked.new ≡ asked.old }
+    ensures never { result ≢ After.Fails }
 {
     match take(&mut frames.top) {
         Value::Flag(true) => {
@@ -379,6 +383,7 @@ fn send_to(frames: &mut Frames, method: u8, arguments: Values, asked: &mut Optio
     requires empty { asked.old ≡ None }
     ensures stepped { HasStepped (send_by method (machine_of frames.old) (Some (arguments, (machine_of frames.old).top.stack))) result asked.new frames.new }
     ensures unasked { result ≢ After.Asks → asked.new ≡ asked.old }
+    ensures never { result ≢ After.Fails }
 {
     match take(&mut frames.top) {
         Value::Ref(object) => {
@@ -422,6 +427,7 @@ fn send(alloc: Global, frames: &mut Frames, method: u8, n: usize, asked: &mut Op
     requires empty { asked.old ≡ None }
     ensures stepped { HasStepped (send_by method (machine_of frames.old) (pops n [] (machine_of frames.old).top.stack)) result asked.new frames.new }
     ensures unasked { result ≢ After.Asks → asked.new ≡ asked.old }
+    ensures few { n ≤ 1 → result ≢ After.Fails }
 {
     if n == 0 {
         return send_to(frames, method, Values::none(), asked);
@@ -441,6 +447,7 @@ fn call_of(frames: &mut Frames, method: u8, arguments: Values, asked: &mut Optio
     requires empty { asked.old ≡ None }
     ensures stepped { HasStepped (call_by method (machine_of frames.old) (Some (arguments, (machine_of frames.old).top.stack))) result asked.new frames.new }
     ensures unasked { result ≢ After.Asks → asked.new ≡ asked.old }
+    ensures never { result ≢ After.Fails }
 {
     match take(&mut frames.top) {
         Value::Ref(object) => {
@@ -487,6 +494,7 @@ fn call(alloc: Global, frames: &mut Frames, method: u8, n: usize, asked: &mut Op
     requires empty { asked.old ≡ None }
     ensures stepped { HasStepped (call_by method (machine_of frames.old) (pops n [] (machine_of frames.old).top.stack)) result asked.new frames.new }
     ensures unasked { result ≢ After.Asks → asked.new ≡ asked.old }
+    ensures few { n ≤ 1 → result ≢ After.Fails }
 {
     if n == 0 {
         return call_of(frames, method, Values::none(), asked);
@@ -506,6 +514,7 @@ fn make(parts: &Parts, frames: &mut Frames, class: u16, n: u32, asked: &mut Opti
     requires empty { asked.old ≡ None }
     ensures stepped { HasStepped (if_deeper frames.old.top.room (machine_of frames.old) (makes_object class n (machine_of frames.old) (builder_of parts.now class))) result asked.new frames.new }
     ensures unasked { result ≢ After.Asks → asked.new ≡ asked.old }
+    ensures never { result ≢ After.Fails }
 {
     if frames.top.room == 0 {
         return ends_by(Trap::TooDeep, asked);
@@ -617,7 +626,8 @@ fn run(
     requires valid { IsValid parts.now }
     requires sound { ComesToAsk parts.now (machine_of frames.old) }
     requires empty { asked.old ≡ None }
-    ensures { OnOk result ((ask : Ask) × (asked.new ≡ Some ask) × Advanced parts.now (machine_of frames.old) ask frames.new) }
+    ensures asked { OnOk result ((ask : Ask) × (asked.new ≡ Some ask) × Advanced parts.now (machine_of frames.old) ask frames.new) }
+    ensures lean { OnErr result (RunsOut parts.now (machine_of frames.old)) }
 {
     let mut instructions = at_work(parts, frames);
     let mut instruction = next(instructions, parts, frames);
@@ -677,13 +687,14 @@ fn put(asked: Option<Ask>) -> Ask
 #[inline(always)]
 pub fn take_ask(asked: &mut Option<Ask>) -> Ask
     requires { asked.old ≢ None }
-    ensures { asked.old ≡ Some result }
+    ensures asked { asked.old ≡ Some result }
+    ensures taken { asked.new ≡ None }
 {
     put(mem::replace(asked, None))
 }
 
-/// Runs to the next ask, which is put where the caller wants it; an ask that stood there is dropped. Where no memory is found, the frames can only
-/// be dropped.
+/// Runs to the next ask, which is put where the caller wants it; an ask that stood there is dropped. Where no memory is found, which
+/// happens only at an instruction that may take some, the frames can only be dropped.
 #[inline(always)]
 pub fn advance_to(
     alloc: Global,
@@ -692,13 +703,14 @@ pub fn advance_to(
     asked: &mut Option<Ask>,
 ) -> Result<(), AllocError>
     requires sound { ComesToAsk code.now (machine_of frames.old) }
-    ensures { OnOk result ((ask : Ask) × (asked.new ≡ Some ask) × Advanced code.now (machine_of frames.old) ask frames.new) }
+    ensures asked { OnOk result ((ask : Ask) × (asked.new ≡ Some ask) × Advanced code.now (machine_of frames.old) ask frames.new) }
+    ensures lean { OnErr result (RunsOut code.now (machine_of frames.old)) }
 {
     clear_ask(asked);
     run(alloc, code.parts(), frames, asked)
 }
 
-/// Runs to the next ask. Where no memory is found, the frames can only be dropped.
+/// Runs to the next ask. Where no memory is found, which happens only at an instruction that may take some, the frames can only be dropped.
 ///
 /// The turns and the depth that are left stand in the frames, so the limits are not looked at.
 pub fn advance(
@@ -708,7 +720,8 @@ pub fn advance(
     _limits: &Limits,
 ) -> Result<Ask, AllocError>
     requires sound { ComesToAsk code.now (machine_of frames.old) }
-    ensures { IfOk result (λ ask. Advanced code.now (machine_of frames.old) ask frames.new) }
+    ensures advanced { IfOk result (λ ask. Advanced code.now (machine_of frames.old) ask frames.new) }
+    ensures lean { OnErr result (RunsOut code.now (machine_of frames.old)) }
 {
     let mut asked = None;
     run(alloc, code.parts(), frames, &mut asked)?;

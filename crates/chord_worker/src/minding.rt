@@ -1,5 +1,6 @@
 //! A worker minds a message that it sent off: it looks for chords with the message, and fires one.
 ghost use Rattle.std.specs.Prelude.{◌≡◌, ◌<◌, ℕ, true, false, None, IsOk, OnOk, OnErr, vec_len, vec_capacity};
+ghost use Rattle.chord_base.specs.Room.{HasGrown};
 ghost use Rattle.chord_base.specs.Story.{IsSound};
 ghost use Rattle.chord_match.specs.Findings.{IsMatch};
 ghost use Rattle.chord_match.specs.Fires.{IsLost};
@@ -15,6 +16,7 @@ use crate::fired::{Drawn, Unpacked, lay_off};
 use crate::worker::{Gate, Worker};
 use chord_base::event::{Entry, Limits};
 use chord_base::members::Members;
+use chord_base::room::reserve_one;
 use chord_base::value::Object;
 use chord_code::code::Code;
 use chord_match::nexts::Nexts;
@@ -39,11 +41,9 @@ fn reserve_draw(draws: &mut Vec<Entry>) -> bool
     ensures items { draws.new.items ≡ draws.old.items }
     ensures room { result ≡ true → vec_len draws.new < vec_capacity draws.new }
     ensures stays { vec_len draws.old < vec_capacity draws.old → (draws.new ≡ draws.old) × (result ≡ true) }
+    ensures grown { result ≡ true → HasGrown (vec_len draws.old) (vec_capacity draws.old) (vec_capacity draws.new) }
 {
-    if draws.len() < draws.capacity() {
-        return true;
-    }
-    match draws.reserve(1) {
+    match reserve_one(draws) {
         Ok(()) => true,
         Err(_) => false,
     }

@@ -21,14 +21,12 @@ overflow_sub-rest c =
     let l = ap length all in
     omega (arith, r, l, c.len.ensures, c.move_to.new.list.ok.0)
 
-pub returns : goal.returns
-returns c =
+pub returns-clause-filled : goal.returns-clause-filled
+returns-clause-filled c =
     let xs = c.args.this ∷ c.args.values in
     let r : length xs ≤ c.args.n = slots_room c.args.n xs c.requires.fits in
     let first : c.push_reserved.new.self.items ≡ c.args.this ∷ [] = grind (arith, common_steps) in
     let all : c.move_to.new.list.items ≡ xs = c.move_to.ensures.items ∙ ap (λ z. z ++ c.args.values) first in
     let l = ap length all in
     let rest : c.args.n - length xs ≡ c.args.n - c.len.result = omega (arith, l, c.len.ensures, c.move_to.new.list.ok.0) in
-    record {
-      filled = slots_of_fits c.args.n xs r ∙ ap (λ k. Some (xs ++ replicate k a_value.Unit)) rest ∙ ap Some (sym (c.pad.ensures.items ∙ ap (λ z. z ++ replicate (c.args.n - c.len.result) a_value.Unit) all));
-    }
+    slots_of_fits c.args.n xs r ∙ ap (λ k. Some (xs ++ replicate k a_value.Unit)) rest ∙ ap Some (sym (c.pad.ensures.items ∙ ap (λ z. z ++ replicate (c.args.n - c.len.result) a_value.Unit) all))

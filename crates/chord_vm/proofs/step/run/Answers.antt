@@ -13,8 +13,8 @@ use Rattle.chord_code.proofs.Weight.{lighter}
 use Rattle.chord_code.proofs.Validity.{valid_forward}
 use Rattle.chord_vm.proofs.step.run.Goals as goal
 
-pub returns-in-Asks : goal.returns-in-Asks
-returns-in-Asks c =
+pub returns-in-Asks-clause-asked : goal.returns-in-Asks-clause-asked
+returns-in-Asks-clause-asked c =
     let code = c.args.parts.now in
     let m = machine_of c.steps.frames in
     let e : step code m ≡ act code (Some c.steps.instruction.now) m = ap (λ o. act code o m) c.steps.invariant.fetched in
@@ -125,8 +125,8 @@ steps-preserved-in-Branch c =
     let next = c.next-instruction-in-Branch.ensures in
     works_on c.args.parts.now 4 _ _ _ _ c.load_at_once.new.frames _ _ _ _ c.steps.invariant (c.load_at_once.ensures.branch c.in-Branch.is) here next.instruction next.within next.fits (c.load_at_once.ensures.unasked (λ e. let z : at_once.Branch ≡ at_once.Ask = sym c.in-Branch.is ∙ e in cc) ∙ c.steps.invariant.empty)
 
-pub returns-in-Ask : goal.returns-in-Ask
-returns-in-Ask c =
+pub returns-in-Ask-clause-asked : goal.returns-in-Ask-clause-asked
+returns-in-Ask-clause-asked c =
     let code = c.args.parts.now in
     let m = machine_of c.steps.frames in
     let f = c.load_at_once.new.frames in
@@ -203,3 +203,8 @@ steps-preserved-in-Load c =
     let ran : run code 1 m ≡ Goes n = ran_once code m ∙ ap (λ o. act code o m) (c.steps.invariant.fetched ∙ ap Some c.in-Load.is) ∙ l in
     let here = ap (instructions_in code) (stays code m n (instr.Load c.in-Load.slot) refl l) ∙ c.steps.invariant.here in
     works_on code 1 _ _ _ _ c.load.new.frames _ _ _ _ c.steps.invariant ran here next.instruction next.within next.fits (c.load_at_once.ensures.unasked (λ e. let z : at_once.Nothing ≡ at_once.Ask = sym c.in-Nothing.is ∙ e in cc) ∙ c.steps.invariant.empty)
+
+pub returns-in-Fails-clause-lean : goal.returns-in-Fails-clause-lean
+returns-in-Fails-clause-lean c =
+    let w = c.steps.invariant in
+    (w.came.0, machine_of c.steps.frames, c.steps.instruction.now, w.came.1, w.fetched, c.step.ensures.lean c.in-Fails.is)

@@ -21,7 +21,7 @@ advance_to-requires c =
 pub returns-clause-some : goal.returns-clause-some
 returns-clause-some c =
     IfOk-weaker c.advance_to.result (λ _. (a : Ask) × (c.advance_to.new.asked ≡ Some a) × Advanced c.args.code.now (machine_of c.deref_mut.result.now) a c.advance_to.new.frames) (λ _. c.advance_to.new.asked ≢ None)
-    (λ _ x e. let z : None ≡ Some x.0 = sym e ∙ x.1 in cc) c.advance_to.ensures
+    (λ _ x e. let z : None ≡ Some x.0 = sym e ∙ x.1 in cc) c.advance_to.ensures.asked
 
 pub returns-clause-came : goal.returns-clause-came
 returns-clause-came c =
@@ -32,4 +32,4 @@ returns-clause-came c =
     (λ _. (a : Ask) → c.advance_to.new.asked ≡ Some a → HasCome code c.args.limits.now t (with_body t (with_frames c.in-Some.body f)) (what_of_ask a))
     (λ _ x a e.
     came_run code c.args.limits.now t c.in-Some.body f a c.requires.task c.requires.runs c.in-Some.is
-    (subst (λ (f : Frames). Advanced code (machine_of f) a c.advance_to.new.frames) c.deref_mut.ensures.value (ask_put code (machine_of c.deref_mut.result.now) c.advance_to.new.asked c.advance_to.new.frames x a e))) c.advance_to.ensures
+    (subst (λ (f : Frames). Advanced code (machine_of f) a c.advance_to.new.frames) c.deref_mut.ensures.value (ask_put code (machine_of c.deref_mut.result.now) c.advance_to.new.asked c.advance_to.new.frames x a e))) c.advance_to.ensures.asked

@@ -1,5 +1,5 @@
-use Rattle.std.proofs.Common.{◌≡◌, ◌∙◌, None, Some, sym, subst, ap, Vec, Global, vec_capacity}
-use Rattle.chord_base.specs.declared.event.Entry.{Entry}
+use Rattle.std.proofs.Common.{◌≡◌, ◌∙◌, ℕ, None, Some, sym, subst, vec_len, vec_capacity}
+use Rattle.chord_base.specs.Room.{HasGrown}
 use Rattle.std.specs.Box.{with_value}
 use Rattle.chord_code.specs.Machine.{ComesToAsk}
 use Rattle.chord_vm.specs.Frames.{machine_of, what_of_ask, Advanced}
@@ -18,14 +18,14 @@ advance_to-requires c =
     }
 
 pub settle-sent-requires-clause-some : goal.settle-sent-requires-clause-some
-settle-sent-requires-clause-some c = λ e. let z : None ≡ Some c.in_ok-advance_to-in-Some.ensures.0 = sym e ∙ c.in_ok-advance_to-in-Some.ensures.1 in cc
+settle-sent-requires-clause-some c = λ e. let z : None ≡ Some c.in_ok-advance_to-in-Some.ensures.asked.0 = sym e ∙ c.in_ok-advance_to-in-Some.ensures.asked.1 in cc
 
 pub settle-sent-requires-clause-awaits : goal.settle-sent-requires-clause-awaits
 settle-sent-requires-clause-awaits c =
     let code = c.args.code.now in
     let b = c.in-Some.body in
     let f = with_value b.frames c.advance_to.new.frames in
-    let advanced : (a : Ask) → c.advance_to.new.asked ≡ Some a → Advanced code (machine_of b.frames.value) a c.advance_to.new.frames = λ a e. subst (λ (g : Frames). Advanced code (machine_of g) a c.advance_to.new.frames) c.deref_mut.ensures.value (ask_put code (machine_of c.deref_mut.result.now) c.advance_to.new.asked c.advance_to.new.frames c.in_ok-advance_to-in-Some.ensures a e) in (
+    let advanced : (a : Ask) → c.advance_to.new.asked ≡ Some a → Advanced code (machine_of b.frames.value) a c.advance_to.new.frames = λ a e. subst (λ (g : Frames). Advanced code (machine_of g) a c.advance_to.new.frames) c.deref_mut.ensures.value (ask_put code (machine_of c.deref_mut.result.now) c.advance_to.new.asked c.advance_to.new.frames c.in_ok-advance_to-in-Some.ensures.asked a e) in (
       with_body c.args.self.now (with_frames b f),
       awaits_number code c.args.limits.now c.args.self.now c.make_room.new.self b f c.advance_to.new.asked c.args.number c.requires.task c.requires.runs c.in-Some.is advanced c.requires.may c.in_ok-make_room-in-Some.ensures.room,
     )
@@ -37,9 +37,9 @@ returns-clause-turned c =
     let t = c.args.self.now in
     let b = c.in-Some.body in
     let f = with_value b.frames c.advance_to.new.frames in
-    let advanced : (a : Ask) → c.advance_to.new.asked ≡ Some a → Advanced code (machine_of b.frames.value) a c.advance_to.new.frames = λ a e. subst (λ (g : Frames). Advanced code (machine_of g) a c.advance_to.new.frames) c.deref_mut.ensures.value (ask_put code (machine_of c.deref_mut.result.now) c.advance_to.new.asked c.advance_to.new.frames c.in_ok-advance_to-in-Some.ensures a e) in
+    let advanced : (a : Ask) → c.advance_to.new.asked ≡ Some a → Advanced code (machine_of b.frames.value) a c.advance_to.new.frames = λ a e. subst (λ (g : Frames). Advanced code (machine_of g) a c.advance_to.new.frames) c.deref_mut.ensures.value (ask_put code (machine_of c.deref_mut.result.now) c.advance_to.new.asked c.advance_to.new.frames c.in_ok-advance_to-in-Some.ensures.asked a e) in
     let s = c.settle-sent.ensures.settled (with_body t (with_frames b f)) (awaits_number code limits t c.make_room.new.self b f c.advance_to.new.asked c.args.number c.requires.task c.requires.runs c.in-Some.is advanced c.requires.may c.in_ok-make_room-in-Some.ensures.room) in
     (what_of_ask s.0, settled_turned code limits t b f s.0 c.args.number c.settle-sent.new.self c.requires.task c.requires.runs c.in-Some.is (advanced s.0 s.1) s.2, s.3, settled_stock code t c.settle-sent.new.self b f (what_of_ask s.0) c.in-Some.is (c.settle-sent.ensures.frames (with_body t (with_frames b f)) c.in_ok-make_room-in-Some.ensures.room s.0 s.1))
 
 pub returns-clause-entries : goal.returns-clause-entries
-returns-clause-entries c = λ room. c.settle-sent.ensures.capacity ∙ ap (λ (v : Vec Entry Global). vec_capacity v) (c.make_room.ensures.entries room)
+returns-clause-entries c = subst (λ (z : ℕ). HasGrown (vec_len c.args.list.now) (vec_capacity c.args.list.now) z) (sym c.settle-sent.ensures.capacity) c.in_ok-make_room-in-Some.ensures.grown
