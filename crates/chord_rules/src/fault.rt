@@ -14,7 +14,7 @@ pub enum RuleFault {
     #[error("out of memory")]
     Memory,
     /// The first break: the rule, and the number of the token at which it is broken.
-    #[error("rule {0} is broken at token {1}")]
+    #[error("rule C{0:02} is broken at token {1}")]
     Rule(u8, u32),
 }
 

@@ -33,7 +33,7 @@ pub enum TypeFault {
     #[error("out of memory")]
     Memory,
     /// The break: the number of a rule, and that of the token at which it is broken.
-    #[error("rule C{0} is broken at token {1}")]
+    #[error("rule C{0:02} is broken at token {1}")]
     Rule(u8, u32),
 }
 
