@@ -250,7 +250,7 @@ take_none two limits h all o (j ∷ js) (i ∷ ms) vs t =
 plan : (two : Bool) (limits : Limits) → IsPlan (pair_code two) limits signatures (plays two limits) fits
 plan two limits = record {
   main = refl;
-  fired = λ h n k o ms vs a all f. let t = one_chord two o.class k f.0 f.1 in (None, (t.0, t.1, take_none two limits h all o f.0 ms vs f.2, refl), inl (rw (eq-eqb n n refl) (serves_none two o.class _ ms)));
+  fired = λ h n k o ms vs a all f. let t = one_chord two o.class k f.0 f.1 in (None, (t.0, t.1, take_none two limits h all o f.0 ms vs f.2, refl), inl (rw (eq-eqb n n refl) (serves_none two o.class _ ms), refl));
 }
 
 -- a message that fits names a method of its class
