@@ -189,6 +189,7 @@ impl Worker {
         requires rest { IsAtRest space.now self.old × IsAtRest space.now other }
         requires tasks { (self.old.task ≡ None) × (other.task ≡ None) }
         requires first { (view self.old.desk).first ≡ true }
+        ensures frame { self.new ≡ record self.old { desk = self.new.desk; taken = self.new.taken; spent = self.new.spent } }
         ensures united { view self.new.desk ≡ united (view self.old.desk) (view other.desk) }
         ensures lists { OnOk result ((self.new.draws ≡ self.old.draws) × (self.new.taken.items ≡ self.old.taken.items ++ other.draws ∷ other.taken.items)) }
         ensures rest { OnOk result (IsAtRest space.now self.new × (self.new.task ≡ None)) }
