@@ -389,8 +389,8 @@ pub found_none : (s : Space Parcel) (x b l y : Player) (all : Bool) → b.worker
     → l.worker.task ≡ None → (view l.worker.desk).kept ≡ (view b.worker.desk).kept → LookedThrough b.place (if all then l.known else min b.known l.known) (view b.worker.desk) (view l.worker.desk)
     → l.place ≡ (if all then l.known else min b.known l.known) - 256 → FoundNoneBelow s b.place b.known (view l.worker.desk) → KnowsCount s l → x.worker.task ≡ None
     → y.worker ≡ l.worker → y.place ≡ l.place → y.known ≡ l.known → (counts x.card ≡ false → b.misses < 32 → y.misses ≡ b.misses + 1) → (counts x.card ≡ true → y.misses ≡ b.misses)
-    → counts y.card ≡ false → HasFoundNone s x y
-found_none s x b l y all worker known begins as_counted none kept through next unready count idle same_worker same_place same_known missed uncounted off = record {
+    → counts y.card ≡ false → (counts x.card ≡ false → last_read y.card ≢ Some 0) → HasFoundNone s x y
+found_none s x b l y all worker known begins as_counted none kept through next unready count idle same_worker same_place same_known missed uncounted off others = record {
   from = b.place;
   misses = b.misses;
   below = if all then l.known else min b.known l.known;
@@ -404,6 +404,7 @@ found_none s x b l y all worker known begins as_counted none kept through next u
   off = off;
   still = rw same_worker (none ∙ sym idle, kept ∙ ap (λ (w : Worker). (view w.desk).kept) worker);
   knows_count = (count.0, rw same_worker count.1, same_known ∙ count.2);
+  others = others;
 }
 
 -- a look in vain of a player with another card, which counted where this one does
@@ -452,4 +453,5 @@ looked_by knows s x y k same as_often (inr none) = inr (record {
   off = none.off;
   still = none.still;
   knows_count = none.knows_count;
+  others = λ not. none.others (same ∙ not);
 })

@@ -12,7 +12,7 @@ use Rattle.chord_pool.specs.declared.player.Player.{Player}
 use Rattle.chord_pool.specs.Players.{HadARound, StandsStill, CountsAsBefore, began, IsBetweenRounds, AreRounds, HadRounds, LookedAgain, HasLeftOff, HaveAllLeftOff, FoundNone, IsSettled, HasStopped, HasPlayed, MayPlay, PlaysOn, CountsIfItPlays}
 use Rattle.chord_pool.specs.declared.ending.Alone.{Alone}
 use Rattle.chord_pool.proofs.Looking.{began_on}
-use Rattle.chord_pool.specs.Ending.{HadATurn, AreTurns, HadTurns, HasLeftOffAlone}
+use Rattle.chord_pool.specs.Ending.{HadATurn, AreTurns, HadTurns, HasFailedAlone, HasLeftOffAlone}
 
 -- a player stands where it stood, twice
 stands_on : (x y z : Player) → StandsStill x y → StandsStill y z → StandsStill x z
@@ -129,3 +129,7 @@ more_turns knows s x y z had later = record { before_each = later.before_each ++
 -- turns, and then more of them, after which it left off
 pub left_off_alone : (knows : ℕ → Type 0) (s : Space Parcel) (x y : Alone) (w : Worker) → HadTurns knows s x y → HasLeftOffAlone knows s y w → HasLeftOffAlone knows s x w
 left_off_alone knows s x y w had later = record { last = later.last; had = more_turns knows s x y later.last had later.had; off = later.off }
+
+-- turns, and then more of them, after which it ran out of memory
+pub failed_alone : (knows : ℕ → Type 0) (s : Space Parcel) (x y : Alone) (w : Worker) → HadTurns knows s x y → HasFailedAlone knows s y w → HasFailedAlone knows s x w
+failed_alone knows s x y w had later = record { last = later.last; had = more_turns knows s x y later.last had later.had; short = later.short }

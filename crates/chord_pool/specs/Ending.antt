@@ -10,7 +10,7 @@ use Rattle.chord_task.specs.declared.parcel.Opened.{Opened as Parcel}
 use Rattle.chord_task.specs.declared.task.Task.{Task}
 use Rattle.chord_word.specs.declared.cells.Word.{Word}
 use Rattle.chord_worker.specs.declared.worker.Worker.{Worker}
-use Rattle.chord_worker.specs.Resting.{IsAtRest}
+use Rattle.chord_worker.specs.Resting.{IsAtRest, IsOutOfMemory}
 use Rattle.chord_worker.specs.Stepping.{DrewAStep, HasGoneOn, PlaysNext, PlaysFiring, StillPlays}
 use Rattle.chord_pool.specs.declared.ending.Alone.{Alone}
 use Rattle.chord_pool.specs.Players.{count_ready, AreAmong, AreLookedAt, IsSettled, IsUnready, LookedAtAll, LookedAtNone, LookedThrough}
@@ -86,6 +86,19 @@ pub record HasLeftOffAlone (knows : ℕ → Type 0) (s : Space Parcel) (x : Alon
   pub last : Alone
   pub had : HadTurns knows s x last
   pub off : FoundRunOver s last.worker w
+
+-- the worker had one step of its task, and ran out of memory
+pub record HasRunOut (s : Space Parcel) (v w : Worker) : Type 0 where
+  pub task : Task
+  pub had : v.task ≡ Some task
+  pub short : IsOutOfMemory s w
+  pub drew : DrewAStep task (view v.desk).draws (view w.desk).draws
+
+-- the first worker had turns, and then one step of its task, and ran out of memory
+pub record HasFailedAlone (knows : ℕ → Type 0) (s : Space Parcel) (x : Alone) (w : Worker) : Type 0 where
+  pub last : Alone
+  pub had : HadTurns knows s x last
+  pub short : HasRunOut s last.worker w
 
 -- the first worker is alone and at rest, and has nothing to play where it was told that the limit is reached
 pub record IsAloneWorker (s : Space Parcel) (w : Worker) : Type 0 where

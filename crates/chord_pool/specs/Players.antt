@@ -204,7 +204,7 @@ pub record HasFound (knows : ℕ → Type 0) (s : Space Parcel) (x y : Player) :
   pub misses : y.misses ≡ 0
   pub throughout : counts x.card ≡ true → ended y.card ≡ ended x.card
 
--- a player that had no task has none and keeps what it kept: it looked at the numbers from where its look begins up to those that it knew of, or all that are given if it counts, found no firing to start there, does not count, goes on at most 256 below their end, and knows how many are given now
+-- a player that had no task has none and keeps what it kept: it looked at the numbers from where its look begins up to those that it knew of, or all that are given if it counts, found no firing to start there, does not count, goes on at most 256 below their end, knows how many are given now, and if it did not count has read that some are at work
 pub record HasFoundNone (s : Space Parcel) (x y : Player) : Type 0 where
   pub from : ℕ
   pub misses : ℕ
@@ -219,6 +219,7 @@ pub record HasFoundNone (s : Space Parcel) (x y : Player) : Type 0 where
   pub off : counts y.card ≡ false
   pub still : StillPlays (view x.worker.desk).kept x.worker.task y.worker
   pub knows_count : KnowsCount s y
+  pub others : counts x.card ≡ false → last_read y.card ≢ Some 0
 
 -- a player that had no task has found a firing to play, or looked from its place on and found none
 abbrev pub HasLooked : (ℕ → Type 0) → Space Parcel → Player → Player → Type 0

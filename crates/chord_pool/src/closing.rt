@@ -1,5 +1,5 @@
 //! The end of a run: the table is closed, and what was drawn is gathered.
-ghost use Rattle.std.specs.Prelude.{◌≡◌, ℕ, ◌≤◌, true, [], ◌∷◌, None, IfOk, IsPermutation, flat_map, length, min, reverse, Some, Vec};
+ghost use Rattle.std.specs.Prelude.{◌≡◌, ℕ, ◌≤◌, true, [], ◌∷◌, None, IfOk, IsOk, IsPermutation, flat_map, length, min, reverse, Some, Vec};
 ghost use Rattle.std.specs.Global.{Global};
 ghost use Rattle.chord_base.specs.Bounds.{IsJournal};
 ghost use Rattle.chord_base.specs.declared.event.Entry.{Entry};
@@ -29,7 +29,8 @@ use std::alloc::{AllocError, Global};
 fn journal_of(alloc: Global, lists: Vec<Vec<Entry>>) -> Result<Journal, AllocError>
     requires held { AreOfJournal (flat_map (λ list. list.items) lists.items) }
     requires alone { (list : Vec Entry Global) → lists.items ≡ list ∷ [] → IsJournal list.items }
-    ensures { IfOk result (λ journal. IsPermutation (flat_map (λ list. list.items) lists.items) journal) }
+    ensures gathered { IfOk result (λ journal. IsPermutation (flat_map (λ list. list.items) lists.items) journal) }
+    ensures found { (list : Vec Entry Global) → lists.items ≡ list ∷ [] → IsOk result }
 {
     let mut lists = lists;
     if lists.len() == 1 {
@@ -69,6 +70,7 @@ pub(crate) fn finish(
     ensures released { IfOk result (λ r. parcels r.1 ≡ []) }
     ensures closed { IfOk result (λ r. (r.1.drawn ≡ length r.0) × ((e : Entry) → IsIn e (closing_view r.1).kept → IsIn e r.0)) }
     ensures drew { IfOk result (λ r. (closing_view r.1).draws ≡ reverse r.0) }
+    ensures found { (list : Vec Entry Global) → entries.items ≡ list ∷ [] → IsOk result }
 {
     entries_are_within(code);
     let mut closed = space.close(desk);

@@ -15,7 +15,7 @@ const CALM: u32 = 64;
 /// A worker that drew at most one in so many of its share computes, waited for work or had no processor, and is in nobody's way.
 const FEW: u64 = 4;
 
-/// What a worker had drawn when its last spell ended, which is so many rounds.
+/// What a worker had drawn when its last spell ended, which is `ROUNDS` rounds (`Player::rounds`).
 ///
 /// Where workers draw numbers in turns, each draw waits until the line of the counter has come from another processor: together they
 /// take more time than one after the other. So a worker that draws less than its share stands aside. How many numbers the others draw

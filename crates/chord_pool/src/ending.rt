@@ -1,13 +1,14 @@
 //! The first worker plays alone, until the run is over: what is left after all others have come back, or all where there are none.
-ghost use Rattle.std.specs.Prelude.{◌≡◌, ℕ, ◌<◌, ◌≤◌, true, false, None, Some, min, IfNone, IfSome, IfOk, OnOk};
+ghost use Rattle.std.specs.Prelude.{◌≡◌, ℕ, ◌<◌, ◌≤◌, true, false, None, Some, min, IfNone, IfSome, IfOk, OnErr, OnOk};
 ghost use Rattle.chord_rule.specs.Closing.{IsAsleep};
 ghost use Rattle.chord_space.specs.Desks.{view};
 ghost use Rattle.chord_word.specs.declared.cells.Word.{Word};
 ghost use Rattle.chord_worker.specs.Resting.{IsSameRole, IsSeen};
 ghost use Rattle.chord_worker.specs.Stepping.{PlaysBody};
+ghost use Rattle.chord_worker.specs.declared.worker.Worker.{Worker as TheWorker};
 ghost use Rattle.chord_pool.specs.declared.ending.Alone.{Alone as TheAlone};
 ghost use Rattle.chord_pool.specs.Players.{IsOneRun, IsFit, IsUnready, LookedThrough};
-ghost use Rattle.chord_pool.specs.Ending.{AreAwake, HasComeTo, IsStirred, HasLookedAlone, HadATurn, HadTurns, FoundRunOver, HasLeftOffAlone, IsAloneWorker, IsRunOver};
+ghost use Rattle.chord_pool.specs.Ending.{AreAwake, HasComeTo, IsStirred, HasLookedAlone, HadATurn, HadTurns, FoundRunOver, HasFailedAlone, HasLeftOffAlone, HasRunOut, IsAloneWorker, IsRunOver};
 
 use crate::run::Run;
 use chord_word::Cell;
@@ -128,6 +129,7 @@ impl Alone {
         ensures over { IfOk result (λ over. over ≡ true → IsRunOver run.now.space.now self.new.worker) }
         ensures went { IfOk result (λ over. over ≡ false → HadATurn G.knows run.now.space.now self.old self.new) }
         ensures off { IfOk result (λ over. over ≡ true → FoundRunOver run.now.space.now self.old.worker self.new.worker) }
+        ensures short { OnErr result (HasRunOut run.now.space.now self.old.worker self.new.worker) }
     {
         if self.worker.is_spent() {
             return Ok(true);
@@ -160,6 +162,7 @@ impl Alone {
         ensures went { IfOk result (λ over. over ≡ false → (before : TheAlone) × HadTurns G.knows run.now.space.now self.old before × HadATurn G.knows run.now.space.now before self.new) }
         ensures had { IfOk result (λ over. over ≡ false → HadTurns G.knows run.now.space.now self.old self.new) }
         ensures off { IfOk result (λ over. over ≡ true → HasLeftOffAlone G.knows run.now.space.now self.old self.new.worker) }
+        ensures short { OnErr result (HasFailedAlone G.knows run.now.space.now self.old self.new.worker) }
     {
         for _turn in 0..TURNS {
             if self.turn(rt, alloc, run, gate)? {
@@ -188,6 +191,7 @@ pub(crate) fn play_alone<'a, R: Wait, G: Gate>(
     ensures over { IfOk result (λ last. IsRunOver run.now.space.now last) }
     ensures off { IfOk result (λ last. (begin : TheAlone) × (begin.worker ≡ worker) × (begin.place ≡ 0) × HasLeftOffAlone G.knows run.now.space.now begin last) }
     ensures splits { IfOk result (λ last. (view last.desk).splits ≡ (view worker.desk).splits) }
+    ensures short { OnErr result ((begin : TheAlone) × (begin.worker ≡ worker) × (begin.place ≡ 0) × (last : TheWorker) × HasFailedAlone G.knows run.now.space.now begin last) }
 {
     let mut alone = Alone { worker, place: 0 };
     for _ in rt.forever() {

@@ -30,13 +30,13 @@ pub(crate) struct Player {
     pub place: u32,
     /// How many numbers were given when it last looked.
     pub known: u32,
-    /// How many of its last looks found none.
+    /// How many of its last looks found none, those left out in which it counted among those at work.
     pub misses: u32,
 }
 
 /// How many of the newest numbers are looked at again after a look that found nothing: a firing becomes ready soon after its draw.
 const NEAR: u32 = 256;
-/// One of so many looks that found nothing is followed by one over all numbers.
+/// After so many looks that found nothing the next one begins at the first number.
 const FAR_LOOK: u32 = 32;
 /// How many rounds a worker plays in a spell, which is one turn of the loop without end.
 const ROUNDS: u32 = 64;
@@ -349,8 +349,9 @@ impl Player {
 
     /// Looks for a firing to play. Whether the worker goes on: it does while it finds one, or another is at work.
     ///
-    /// A worker that does not count among those at work leaves a firing that was drawn since its last look: whoever posted it comes
-    /// to it soon as a rule, and has in its processor's memory what it is about. Taken over at once, each costs more than it takes.
+    /// A worker that does not count among those at work leaves a firing that was drawn since its last look, unless it read that nobody
+    /// is at work: whoever posted it comes to it soon as a rule, and has in its processor's memory what it is about. Taken over at once,
+    /// each costs more than it takes.
     fn idle<'a, R: Wait, G: Gate>(&mut self, rt: &R, run: &Run<'a>, gate: &G, pause: &Pause) -> bool
         requires run { IsOneRun run.now.space.now run.now.code.now run.now.limits.now }
         requires worker { IsFit run.now.space.now self.old.worker }

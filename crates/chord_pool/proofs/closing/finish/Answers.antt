@@ -31,7 +31,7 @@ known c =
     let same : (space_limits c.args.space).events ≡ limits.events = ap (λ (y : Limits). y.events) c.requires.code.1 in
     let s = sealed_for (space_code c.args.space) (space_limits c.args.space) code limits c.args.desk.seat.id (view c.args.desk) slots drawn c.requires.code c.close-closed.ensures.sealed in
     ended code limits c.args.desk.seat.id (view c.args.desk) slots drawn s (omega (arith, sized, same)) c.args.desk.settled.6 c.requires.alone.0 c.requires.alone.1 (c.entries_are_within.ensures.within limits)
-    (flat_map (λ list. list.items) c.args.entries.items) c.requires.held c.in_ok-journal.journal c.in_ok-journal.ensures c.entries-within.ensures.within
+    (flat_map (λ list. list.items) c.args.entries.items) c.requires.held c.in_ok-journal.journal c.in_ok-journal.ensures.gathered c.entries-within.ensures.within
 
 pub returns-clause-run : goal.returns-clause-run
 returns-clause-run c = (known c).run

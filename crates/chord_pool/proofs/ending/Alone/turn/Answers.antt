@@ -1,9 +1,10 @@
-use Rattle.std.proofs.Common.{ℕ, min, inr, ap, ◌∙◌, subst, refl, rules}
+use Rattle.std.proofs.Common.{ℕ, min, inr, ap, ◌∙◌, subst, refl, sym, rules}
 use Rattle.chord_rule.specs.declared.view.View.{View}
 use Rattle.chord_space.specs.Desks.{view, events}
+use Rattle.chord_pool.specs.Ending.{HasRunOut}
 use Rattle.chord_pool.specs.Players.{LookedThrough}
 use Rattle.chord_pool.proofs.Looking.{through_from}
-use Rattle.chord_pool.proofs.Endings.{looked_since, unlimited}
+use Rattle.chord_pool.proofs.Endings.{looked_since, task_there, unlimited}
 use Rattle.chord_pool.proofs.ending.Alone.turn.Goals as goal
 
 pub returns-clause-went : goal.returns-clause-went
@@ -36,3 +37,9 @@ returns-clause-off g c = λ over.
         ),
       ));
     }
+
+pub returns-in_err-step-clause-short : goal.returns-in_err-step-clause-short
+returns-in_err-step-clause-short g c =
+    let there = task_there c.args.self.now.worker.task (sym c.has_task.ensures ∙ c.if-has_task.true) in
+    let out : HasRunOut c.args.run.now.space.now c.args.self.now.worker c.step.new.self = record { task = there.0; had = there.1; short = c.in_err-step.ensures.short; drew = c.step.ensures.drew there.0 there.1 } in
+    search (rules, out)

@@ -1,5 +1,6 @@
 use Rattle.std.proofs.Common.{rules, arith}
 use Rattle.chord_space.specs.Desks.{view}
+use Rattle.chord_pool.specs.Ending.{HasFailedAlone}
 use Rattle.chord_pool.proofs.Endings.{role_stays}
 use Rattle.chord_pool.proofs.Rounds.{no_turns, one_turn_more}
 use Rattle.chord_pool.proofs.ending.Alone.turns.Goals as goal
@@ -23,3 +24,8 @@ returns-clause-had g c = λ _. c.loop-turn.invariant.3
 
 pub returns-then-branch-clause-off : goal.returns-then-branch-clause-off
 returns-then-branch-clause-off g c = λ _. record { last = c.loop-turn.self; had = c.loop-turn.invariant.3; off = c.in_ok-turn.ensures.off c.if-branch.true }
+
+pub returns-in_err-turn-clause-short : goal.returns-in_err-turn-clause-short
+returns-in_err-turn-clause-short g c =
+    let out : HasFailedAlone g.G.Gate.knows c.args.run.now.space.now c.args.self.now c.turn.new.self.worker = record { last = c.loop-turn.self; had = c.loop-turn.invariant.3; short = c.in_err-turn.ensures.short } in
+    search (rules, out)

@@ -18,7 +18,8 @@ returns-then-counted-2-clause-looked g c = λ _.
     let counted : counts c.args.self.now.card ≡ true = sym c.read-working.ensures.same.2 ∙ sym (ap counts same.1) ∙ sym c.if-counted-2.ensures in
     let all : c.if-counted.look ≡ true = elim c.if-counted.branch [ then-counted w ↦ w.look-is ∙ c.if-counted-2.true | else-counted w ↦ absurd (cc) ] in
     inr (found_none c.args.run.now.space.now c.args.self.now c.begin_look.new.self c.look.new.self _ c.if-counted.look same.0 same.3 (record { near = begins.near; far = begins.far }) (all ∙ sym counted)
-    none (look.kept none) (look.through none) (look.next none) (look.knew none) (look.knows none) c.requires.idle refl refl refl (λ other. absurd (cc)) (λ _. look.same.1) (search rules))
+    none (look.kept none) (look.through none) (look.next none) (look.knew none) (look.knows none) c.requires.idle refl refl refl (λ other. absurd (cc)) (λ _. look.same.1) (search rules)
+    (λ other. let z : true ≡ false = sym counted ∙ other in absurd (cc)))
 
 pub returns-clause-looked : goal.returns-clause-looked
 returns-clause-looked g c = λ _.
@@ -29,7 +30,11 @@ returns-clause-looked g c = λ _.
     let counted : counts c.args.self.now.card ≡ false = sym c.read-working.ensures.same.2 ∙ sym (ap counts same.1) ∙ sym c.if-counted-2.ensures in
     let all : c.if-counted.look ≡ false = elim c.if-counted.branch [ then-counted w ↦ absurd (cc) | else-counted w ↦ w.look-is ∙ ne_eqb c.read-working.result 0 c.if-working-eq0.false ] in
     inr (found_none c.args.run.now.space.now c.args.self.now c.begin_look.new.self c.look.new.self _ c.if-counted.look same.0 same.3 (record { near = begins.near; far = begins.far }) (all ∙ sym counted)
-    none (look.kept none) (look.through none) (look.next none) (look.knew none) (look.knows none) c.requires.idle refl refl refl (λ _ few. let more = c.saturating_add-self.ensures in let before = look.same.1 in omega (arith, more, before, few)) (λ other. absurd (cc)) (look.as_before none ∙ ap counts same.1 ∙ c.read-working.ensures.same.2 ∙ counted))
+    none (look.kept none) (look.through none) (look.next none) (look.knew none) (look.knows none) c.requires.idle refl refl refl (λ _ few. let more = c.saturating_add-self.ensures in let before = look.same.1 in omega (arith, more, before, few)) (λ other. absurd (cc)) (look.as_before none ∙ ap counts same.1 ∙ c.read-working.ensures.same.2 ∙ counted)
+    (λ _ nobody.
+    let read : Some c.read-working.result ≡ Some 0 = sym c.read-working.ensures.read ∙ sym (ap last_read same.1) ∙ sym look.card.1 ∙ nobody in
+    let zero : c.read-working.result ≡ 0 = cc in
+    c.if-working-eq0.false zero))
 
 pub returns-then-has_task-clause-looked : goal.returns-then-has_task-clause-looked
 returns-then-has_task-clause-looked g c = λ _.
