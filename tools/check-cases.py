@@ -1,6 +1,6 @@
 #!/usr/bin/env python3
 """Does the built program answer each case of cases/*.tsv as its row says, accept what keeps each limit and refuse what passes it (tools/limits.py), print of
-each program of examples/ the lines beside it, on one thread, by workers, through the launcher, and by workers too where no thread can be made?
+each program of examples/ the lines and the journal beside it, on one thread, by workers, through the launcher, and by workers too where no thread can be made?
 
     tools/check-cases.py          asks the program that ./build or the gate made
     tools/check-cases.py --try    asks the toolchain's runner, which needs no proof
@@ -88,21 +88,41 @@ def examples(ways):
             yield os.path.relpath(path, TOP), words, ENDS.get(os.path.basename(name), 0), written, text
 
 
-def answer(program, words, source):
+def journals():
+    """The journals that stand beside examples, each as a case: on one thread a run is always the same."""
+    paths = sorted(glob.glob(f'{TOP}/examples/*.journal'))
+    if not paths:
+        raise SystemExit('examples/: there is no journal in it')
+    beside = {place: case for place, *case in examples([['run', '--one', '--journal']])}
+    for path in paths:
+        place = os.path.relpath(path, TOP)
+        words, status, written, source = beside[f'{place.removesuffix(".journal")}.cs']
+        with open(path, 'rb') as journal:
+            yield place, words, status, written + journal.read(), source
+
+
+def answer(program, words, source, environment=None):
     """The status of the program and what it writes; None and why where it came to no end."""
     try:
-        ran = subprocess.run([program, *words], input=source, stdout=subprocess.PIPE, stderr=subprocess.PIPE, timeout=SECONDS, check=False)
+        ran = subprocess.run([program, *words], input=source, stdout=subprocess.PIPE, stderr=subprocess.PIPE, env=environment, timeout=SECONDS, check=False)
     except subprocess.TimeoutExpired:
         return None, f'no end in {SECONDS} seconds'.encode()
     return ran.returncode, ran.stdout + ran.stderr
 
 
 def launched():
-    """Each example through the launcher, which starts the program with words of its own on memory: what is wrong."""
-    for place, words, status, written, source in examples([['run']]):
-        got = answer(f'{TOP}/chord', words, source)
-        if got != (status, written):
-            yield f'{place}: status {got[0]} and {got[1][:200]!r} by ./chord'
+    """Each example through the launcher, beside a copy of the program that is newer than its sources: what is wrong."""
+    with tempfile.TemporaryDirectory() as folder:
+        launcher = shutil.copy(f'{TOP}/chord', f'{folder}/chord')
+        shutil.copy2(f'{TOP}/crates.txt', folder)
+        os.makedirs(f'{folder}/crates/chord_prog/out')
+        shutil.copy(PROGRAM, f'{folder}/crates/chord_prog/out/chord_prog')
+        # without words of its own on memory, the launcher's are what the program gets
+        plain = {name: value for name, value in os.environ.items() if name != 'GLIBC_TUNABLES'}
+        for place, words, status, written, source in examples([['run']]):
+            got = answer(launcher, words, source, plain)
+            if got != (status, written):
+                yield f'{place}: status {got[0]} and {got[1][:200]!r} by ./chord'
 
 
 def built_answers(cases):
@@ -155,7 +175,7 @@ def main():
     if not is_tried and not os.access(PROGRAM, os.X_OK):
         print(f'cases: {PROGRAM} is not there: ./build makes it', file=sys.stderr)
         return 1
-    cases = [*table_cases(), *limits.cases(), *examples(WAYS)]
+    cases = [*table_cases(), *limits.cases(), *examples(WAYS), *journals()]
     answers = tried_answers(cases) if is_tried else built_answers(cases)
     failed = 0
     for (_, _, status, written, _), (place, got) in zip(cases, answers):

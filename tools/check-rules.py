@@ -34,9 +34,9 @@ def case_answers():
     return found
 
 
-def is_accepted(words, status, written):
-    """Whether a row says that its source is accepted; words that are not accepted say nothing of it."""
-    return status in ('0', '4', '6', '8') and words != '' and not written.startswith('refused ')
+def is_accepted(_, status, written):
+    """Whether a row says that its source is accepted."""
+    return status in ('0', '4', '6', '8') and not written.startswith('refused ')
 
 
 def wrong_example(rule, entry, answers):
@@ -52,7 +52,7 @@ def wrong_example(rule, entry, answers):
     if int(column) not in starts:
         yield f'{rule}: no token of its example begins at column {column}'
     refused = f'refused {rule} 1:{column}\\n'
-    for source, is_right, meant in ((broken, lambda words, status, written: (status, written) == ('1', refused), 'is refused so'),
+    for source, is_right, meant in ((broken, lambda _, status, written: (status, written) == ('1', refused), 'is refused so'),
                                     (accepted, is_accepted, 'is accepted')):
         own = answers.get(REPEATED.sub(r'\\*\1{', source), [])
         if not own:
