@@ -20,14 +20,14 @@ def way(program, name):
 
 
 def times_in_turns(programs, ways, runs, sources):
-    """The seconds of each program in each way over these sources, each with what it writes, played in turns."""
+    """The seconds of each program, by its place among them, in each way over these sources, each with what it writes, played in turns."""
     times = {}
     for _ in range(runs):
         for name in ways:
-            for program in programs:
+            for place, program in enumerate(programs):
                 for source, wanted in sources:
                     took = pool.seconds(way(program, name), source, wanted)[0]
-                    times.setdefault((name, program, source), []).append(took)
+                    times.setdefault((name, place, source), []).append(took)
     return times
 
 
@@ -42,8 +42,8 @@ def measure(workload, programs, ways, runs):
     times = times_in_turns(programs, ways, runs, [(source, wanted), (none, None)])
     for name in ways:
         told = []
-        for program in programs:
-            median, least = ((of(times[name, program, source]) - of(times[name, program, none])) / firings * 1e9 for of in (statistics.median, min))
+        for place, program in enumerate(programs):
+            median, least = ((of(times[name, place, source]) - of(times[name, place, none])) / firings * 1e9 for of in (statistics.median, min))
             told.append(f'{os.path.basename(program)} {median:.0f} (least {least:.0f})')
         print(f'{workload}, {name}: {", ".join(told)} ns a firing', flush=True)
 

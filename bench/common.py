@@ -29,15 +29,13 @@ def environment():
 
 
 def user_seconds(command, source, wanted=None, runs=RUNS):
-    """The mean user time of a command on this standard input; the system counts it in ticks of 4 ms, so one run says little.  The last run's output is
-    compared with what is wanted, if anything is."""
+    """The mean user time of a command on this standard input; the system counts it in ticks of 4 ms, so one run says little.  Each run ends with status 0, and
+    its output is compared with what is wanted, if anything is."""
     before = resource.getrusage(resource.RUSAGE_CHILDREN).ru_utime
     for _ in range(runs):
-        ran = subprocess.run(command, input=source, stdout=subprocess.PIPE, stderr=subprocess.STDOUT, check=False)
-    seconds = (resource.getrusage(resource.RUSAGE_CHILDREN).ru_utime - before) / runs
-    if wanted is not None:
-        assert ran.stdout == wanted, f'{command} wrote {ran.stdout[:200]!r}, not {wanted[:200]!r}'
-    return seconds
+        ran = subprocess.run(command, input=source, stdout=subprocess.PIPE, stderr=subprocess.STDOUT, check=True)
+        assert wanted in (None, ran.stdout), f'{command} wrote {ran.stdout[:200]!r}, not {wanted[:200]!r}'
+    return (resource.getrusage(resource.RUSAGE_CHILDREN).ru_utime - before) / runs
 
 
 def counted(command, source, wanted, file):

@@ -137,13 +137,13 @@ GO_RUNS = 100
 
 
 def seconds(command, source, wanted, runs=RUNS):
-    """The mean time, user and system, of a command on this standard input."""
+    """The mean time, user and system, of a command on this standard input, each run of which ends with status 0 and writes what is wanted."""
     environment = common.environment()
     before = resource.getrusage(resource.RUSAGE_CHILDREN)
     for _ in range(runs):
-        ran = subprocess.run(command, input=source, stdout=subprocess.PIPE, stderr=subprocess.STDOUT, env=environment, check=False)
+        ran = subprocess.run(command, input=source, stdout=subprocess.PIPE, stderr=subprocess.STDOUT, env=environment, check=True)
+        assert ran.stdout == wanted, f'{command} wrote {ran.stdout[:200]!r}, not {wanted!r}'
     after = resource.getrusage(resource.RUSAGE_CHILDREN)
-    assert ran.stdout == wanted, f'{command} wrote {ran.stdout[:200]!r}, not {wanted!r}'
     return (after.ru_utime + after.ru_stime - before.ru_utime - before.ru_stime) / runs
 
 

@@ -37,31 +37,35 @@ fn text(alloc: Global, first: &[u8], middle: &[u8], last: &[u8]) -> Result<Vec<u
     Ok(out)
 }
 
-// The time of one call, and how many tokens it gave.
-fn one(rt: &HostRuntime, text: &[u8]) -> io::Result<(u64, usize)> {
+// The time of one call, and how many tokens it gave, if it gave any list.
+fn one(rt: &HostRuntime, text: &[u8]) -> io::Result<(u64, Option<usize>)> {
     if text.len() > BYTES {
-        return Ok((0, 0));
+        return Ok((0, None));
     }
     let start = rt.thread_cpu_time()?;
     let result = lex(rt.alloc(), text);
     let took = micros(rt, start)?;
     match result {
-        Ok(tokens) => Ok((took, tokens.len())),
-        Err(_) => Ok((took, 0)),
+        Ok(tokens) => Ok((took, Some(tokens.len()))),
+        Err(_) => Ok((took, None)),
     }
 }
 
 fn measure(rt: &HostRuntime, name: &str, text: &[u8]) -> io::Result<()> {
     let mut ours = 0u64;
+    let mut lists = 0u64;
     let mut tokens = 0;
     for _ in 0..RUNS {
         let (took, count) = one(rt, text)?;
         ours = ours.saturating_add(took);
-        tokens = count;
+        if let Some(count) = count {
+            lists = lists.saturating_add(1);
+            tokens = count;
+        }
     }
     let (theirs, all) = plain_micros(rt, text, RUNS)?;
     let len = text.len();
-    println!(rt; "{name} {len} {tokens} {ours} {theirs} {all}")
+    println!(rt; "{name} {len} {lists} {tokens} {ours} {theirs} {all}")
 }
 
 fn main(rt: HostRuntime) -> io::Result<()> {
@@ -76,8 +80,9 @@ def main():
     rows = common.rows_of('lexer_speed', ['chord_lexer'], SOURCE % (RUNS, '\n'.join(calls)))
     assert [row[0] for row in rows] == [kind[0] for kind in KINDS], rows
     for name, *numbers, _ in rows:
-        size, tokens, ours, theirs = map(int, numbers)
-        assert tokens or name in ('line-comment', 'block-comment', 'blanks'), f'{name}: no tokens'
+        size, lists, tokens, ours, theirs = map(int, numbers)
+        assert lists == RUNS, f'{name}: {lists} lists of tokens in {RUNS} runs'
+        assert (tokens == 0) == (name in ('line-comment', 'block-comment', 'blanks')), f'{name}: {tokens} tokens'
         scale = size * RUNS / 1000
         common.tell(name, ours / scale, max(theirs, 1) / scale, 'ns a byte', f'{size} bytes, {tokens} tokens')
 

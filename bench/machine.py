@@ -87,7 +87,8 @@ fn once(alloc: Global, code: &Code) -> Result<bool, AllocError>
     requires { code.now ≡ record { classes = []; blocks = record { slots = 2; instructions = instr.Int (pos 0) ∷ instr.Store 1 ∷ instr.Load 1 ∷ instr.Int (pos 1) ∷ instr.Add ∷ instr.Store 1 ∷ instr.Load 1 ∷ instr.Int (pos 1) ∷ instr.Sub ∷ instr.Drop ∷ instr.Load 1 ∷ instr.Int (pos TURNS) ∷ instr.Lt ∷ instr.Again 2 ∷ instr.End ∷ [] } ∷ [] } }
 {
     let limits = limits();
-    let mut task = Task::main(alloc, code, &limits)?;
+    let mut list = Vec::new(alloc);
+    let mut task = Task::main(alloc, code, &limits, &mut list)?;
     if task.is_ready() {
         let ask = task.ask(alloc, code, &limits)?;
         Ok(ends(ask))

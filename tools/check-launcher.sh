@@ -124,7 +124,9 @@ for signal in HUP INT TERM; do
     # an interrupt is ignored by what a script starts in the background, and by what that starts
     python3 -c 'import os, signal, sys; signal.signal(signal.SIGINT, signal.SIG_DFL); os.execv(sys.argv[1], sys.argv[1:])' "$work/top/chord" run </dev/null 2>/dev/null &
     launched=$!
-    while [ ! -s "$work/id" ]; do sleep 0.02; done
+    tries=0
+    while [ ! -s "$work/id" ] && [ "$tries" -lt 1500 ]; do sleep 0.02; tries=$((tries + 1)); done
+    [ -s "$work/id" ] || { echo "launcher: the program was not started within half a minute" >&2; kill -s KILL "$launched"; failed=1; continue; }
     kill -s "$signal" "$launched"
     wait "$launched"
     [ $? -eq 143 ] || { echo "launcher: $signal does not end it" >&2; failed=1; }

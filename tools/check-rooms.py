@@ -1,6 +1,7 @@
 #!/usr/bin/env python3
 """Do the root files of the crates say what crates.txt says, which crates each stands on and which use it?"""
 
+import glob
 import os
 import re
 import sys
@@ -41,7 +42,11 @@ def wrong_of(crate, below):
 
 def main():
     below = antt.crates()
-    wrong = [line for crate in below for line in wrong_of(crate, below)]
+    stand = {path.split('/')[-2] for path in glob.glob(f'{antt.TOP}/crates/*/src')}
+    wrong = [] if below else ['crates.txt names no crate']
+    wrong += [f'crates/{crate} is not in crates.txt' for crate in sorted(stand - set(below))]
+    wrong += [f'crates.txt names {crate}, which is not in crates/' for crate in sorted(set(below) - stand)]
+    wrong += [line for crate in below if crate in stand for line in wrong_of(crate, below)]
     for line in wrong:
         print(f'rooms: {line}', file=sys.stderr)
     return 1 if wrong else 0

@@ -1,6 +1,6 @@
 #!/usr/bin/env python3
 """Has each rule of the language its entry in docs/LANGUAGE.md, with a program that breaks it and one that is nearly the same and breaks none, are both rows of
-cases/, and does `./chord explain` print the entry?"""
+cases/ with the answers that the entry gives, and does `./chord explain` print the entry?"""
 
 import glob
 import os
@@ -22,16 +22,24 @@ def entries():
         return {found.group(1): found.group(0).rstrip('\n') + '\n' for found in ENTRY.finditer(page.read())}
 
 
-def case_sources():
-    """The sources of all rows of cases/, as they stand there."""
+def case_answers():
+    """What the rows of cases/ with each source say, as they stand there: words, status and what is written."""
+    found = {}
     for path in glob.glob(f'{TOP}/cases/*.tsv'):
         with open(path, encoding='utf-8') as table:
             for line in table:
-                if not line.startswith('# '):
-                    yield line.rstrip('\n').split('\t')[-1]
+                if line.strip('\n') and not line.startswith('# '):
+                    *answer, source = line.rstrip('\n').split('\t')
+                    found.setdefault(source, []).append(answer)
+    return found
 
 
-def wrong_example(rule, entry, sources):
+def is_accepted(_, status, written):
+    """Whether a row says that its source is accepted."""
+    return status in ('0', '4', '6', '8') and not written.startswith('refused ')
+
+
+def wrong_example(rule, entry, answers):
     """What is wrong with the example of an entry."""
     found = EXAMPLE.search(entry)
     if not found:
@@ -43,9 +51,15 @@ def wrong_example(rule, entry, sources):
     starts = [token.start() + 1 for token in TOKEN.finditer(broken)]
     if int(column) not in starts:
         yield f'{rule}: no token of its example begins at column {column}'
-    for source in (broken, accepted):
-        if REPEATED.sub(r'\\*\1{', source) not in sources:
+    refused = f'refused {rule} 1:{column}\\n'
+    for source, is_right, meant in ((broken, lambda _, status, written: (status, written) == ('1', refused), 'is refused so'),
+                                    (accepted, is_accepted, 'is accepted')):
+        own = answers.get(REPEATED.sub(r'\\*\1{', source), [])
+        if not own:
             yield f'{rule}: no row of cases/ has the source {source}'
+        for answer in own:
+            if not is_right(*answer):
+                yield f'{rule}: its entry says that {source} {meant}, and a row of cases/ says {answer}'
 
 
 def explained(rule):
@@ -54,10 +68,10 @@ def explained(rule):
 
 
 def main():
-    found, sources = entries(), set(case_sources())
+    found, answers = entries(), case_answers()
     wrong = [] if list(found) == RULES else [f'the entries are {", ".join(found)}']
     for rule, entry in found.items():
-        wrong += wrong_example(rule, entry, sources)
+        wrong += wrong_example(rule, entry, answers)
         if explained(rule) != entry:
             wrong.append(f'{rule}: ./chord explain prints another text than its entry')
     if subprocess.run([f'{TOP}/chord', 'explain', 'C25'], stderr=subprocess.PIPE, check=False).returncode == 0:

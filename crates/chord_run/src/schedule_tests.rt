@@ -313,36 +313,48 @@ struct Verdict {
     drawn: u32,
 }
 
-/// Plays the schedule of a seed, and judges what was drawn.
+/// How many of these lists have an entry.
+fn filled_among(lists: &[Vec<Entry>]) -> usize {
+    let mut filled = 0usize;
+    for list in lists {
+        if !list.is_empty() {
+            filled = filled.saturating_add(1);
+        }
+    }
+    filled
+}
+
+/// Plays the schedule of a seed, and judges what was drawn: the verdict, and how many of the workers drew an entry.
 fn judged<R: Wait>(
     rt: &R,
     alloc: Global,
     code: &Code,
     limits: &Limits,
     seed: u32,
-) -> Result<Option<Verdict>, AllocError>
+) -> Result<(Option<Verdict>, usize), AllocError>
     requires events { (0 < limits.now.events) × (limits.now.events ≤ 65536) }
     requires depth { (0 < limits.now.depth) × (limits.now.depth ≤ 256) }
     requires sound { IsSoundCode code.now }
 {
     let (space, desk) = Space::make(alloc, code, limits)?;
     match play(rt, alloc, &space, code, limits, desk, seed)? {
-        None => Ok(None),
+        None => Ok((None, 0)),
         Some(last) => {
             let (desk, lists) = last.into_parts(&space)?;
             let closed = space.close(desk);
             let drawn = closed.drawn();
+            let filled = filled_among(&lists);
             let entries = entries_of(alloc, lists)?;
             let listed = entries.len();
             let ordered = in_order(alloc, &entries)?;
             let limits = *limits;
             let run = run_length(alloc, &Plain { code, limits }, &ordered)?;
-            Ok(Some(Verdict { run, listed, drawn }))
+            Ok((Some(Verdict { run, listed, drawn }), filled))
         }
     }
 }
 
-/// The schedules of all seeds, of one case.
+/// The schedules of all seeds, of one case, in some of which both workers draw.
 fn schedules<R: Abort + Wait>(rt: &R, alloc: Global, case: &Case) -> Result<(), Fail> {
     let code = compiled(alloc, case.source)?;
     let events = case.events;
@@ -354,10 +366,12 @@ fn schedules<R: Abort + Wait>(rt: &R, alloc: Global, case: &Case) -> Result<(), 
         turns: 1000,
         depth: 256,
     };
+    let name = case.name;
+    let mut shared = 0u32;
     for seed in 0..SEEDS {
-        let name = case.name;
+        let (verdict, filled) = judged(rt, alloc, &code, &limits, seed)?;
         assert_eq!(rt;
-            judged(rt, alloc, &code, &limits, seed)?,
+            verdict,
             Some(Verdict {
                 run: case.entries as usize,
                 listed: case.entries as usize,
@@ -365,7 +379,11 @@ fn schedules<R: Abort + Wait>(rt: &R, alloc: Global, case: &Case) -> Result<(), 
             }),
             "{name} {seed}"
         );
+        if filled == 2 {
+            shared = shared.saturating_add(1);
+        }
     }
+    assert!(rt; shared > 0, "{name}");
     Ok(())
 }
 
