@@ -1,5 +1,5 @@
 //! Many threads play one run.
-ghost use Rattle.std.specs.Prelude.{◌≡◌, ◌⊎◌, ◌+◌, ◌<◌, ◌≤◌, false, [], IfOk, length, reverse};
+ghost use Rattle.std.specs.Prelude.{◌≡◌, ◌≢◌, ◌⊎◌, ◌+◌, ◌<◌, ◌≤◌, false, [], IfOk, length, reverse};
 ghost use Rattle.chord_base.specs.declared.event.Entry.{Entry};
 ghost use Rattle.chord_base.specs.Machine.{IsRun, IsComplete};
 ghost use Rattle.chord_base.specs.Story.{IsIn};
@@ -89,7 +89,7 @@ fn play_all<'a, R: Threads + Wait + Sync, G: Gate + Sync>(
     ensures over { IfOk result (λ last. IsRunOver run.now.space.now last) }
     ensures crew { IfOk result (λ last. (view last.desk).splits + 1 ≡ workers) }
     ensures told { IfOk result (λ _. G.knows 0) }
-    ensures alone { IfOk result (λ last. workers ≡ 1 → (begin : TheAlone) × PlaysMain begin.worker × (begin.place ≡ 0) × HasLeftOffAlone G.knows run.now.space.now begin last) }
+    ensures alone { IfOk result (λ last. (begin : TheAlone) × (workers ≡ 1 → PlaysMain begin.worker) × (workers ≢ 1 → IsLast run.now.space.now begin.worker) × (begin.place ≡ 0) × HasLeftOffAlone G.knows run.now.space.now begin last) }
 {
     let main = Worker::main(alloc, run.space, run.code, run.limits, desk)?;
     // One that hires nobody is alone from the beginning: it needs no thread, and looks for nothing that others might have posted.
@@ -110,8 +110,8 @@ fn play_all<'a, R: Threads + Wait + Sync, G: Gate + Sync>(
 /// drew the entries of the journal, in its order, and each entry that the desk that closed it kept stands there; it has given its memory back, and no parcel is
 /// left. That desk is the first one, and each other worker had a desk that was split from it. `gate.started` is called for each body by the worker that
 /// begins to play it; that the gate knows of `Main` is a clause, that it knows of each other one is said of what each worker does at
-/// its thread (`HasLeftOff`) and of what the first one does alone (`HasLeftOffAlone`), and that it is told once is tested. It is
-/// not promised that the call returns.
+/// its thread (`HasLeftOff`) and of what the first one does alone, by any number of workers (`HasLeftOffAlone`), and that it is told
+/// once is tested. It is not promised that the call returns.
 ///
 /// # Errors
 ///
