@@ -1,9 +1,10 @@
 -- The crew of a run: at the beginning, with one more worker, and back from its threads.
-use Rattle.std.proofs.Common.{◌≡◌, ◌+◌, ◌<◌, ◌≤◌, true, false, List, [], ◌∷◌, ◌++◌, length, length-append, None, sym, ap, ◌∙◌, subst, arith}
+use Rattle.std.proofs.Common.{◌≡◌, ◌+◌, ◌<◌, ◌≤◌, true, false, List, [], ◌∷◌, ◌++◌, length, length-append, None, sym, ap, ◌∙◌, subst, arith, ◌||◌, Bool}
 use Rattle.atomic_table.specs.Seated.{TableId}
 use Rattle.std.proofs.lemmas.List.Elements.{All-push}
+use Rattle.chord_base.specs.declared.event.Entry.{Entry}
 use Rattle.chord_base.specs.declared.event.Limits.{Limits}
-use Rattle.chord_base.specs.Story.{IsSound}
+use Rattle.chord_base.specs.Story.{IsSound, together}
 use Rattle.chord_code.specs.declared.parts.Parts.{Parts}
 use Rattle.chord_code.specs.Meaning.{code_program}
 use Rattle.chord_code.specs.Sound.{IsSoundCode}
@@ -18,7 +19,7 @@ use Rattle.chord_task.specs.declared.parcel.Opened.{Opened as Parcel}
 use Rattle.chord_worker.specs.declared.worker.Worker.{Worker}
 use Rattle.chord_worker.specs.Resting.{IsAtRest, IsSameRole}
 use Rattle.chord_pool.specs.declared.player.Player.{Player}
-use Rattle.chord_pool.specs.Players.{IsOneRun, HasPlayed, PlaysOn, HaveAllPlayed, AreOfRoll, AreCards, IsHired, IsCrew, IsBack}
+use Rattle.chord_pool.specs.Players.{IsOneRun, HasPlayed, PlaysOn, HaveAllPlayed, AreOfRoll, AreCards, IsHired, IsCrew, IsBack, any_failed, with_draws}
 use Rattle.chord_pool.proofs.Handing.{hired_more}
 
 -- the first worker has lent one desk more, to a worker with nothing to play
@@ -80,3 +81,11 @@ come_back s main back others backs crew played on all count sane =
       lent = role.lent ∙ crew.lent ∙ sym count;
       all = all;
     }
+
+-- one that had not failed was taken in, so of those that are left one failed exactly where one of all did
+pub failed_as_before : (xs left : List Player) (x : Player) (all : Bool) → any_failed xs ≡ all → xs ≡ x ∷ left → x.failed ≡ false → any_failed left ≡ all
+failed_as_before xs left x all had is sane = sym (ap (λ (b : Bool). b || any_failed left) sane) ∙ sym (ap any_failed is) ∙ had
+
+-- what one drew that was taken in is drawn, and with what is left it comes to the same
+pub drawn_with : (xs left : List Player) (x : Player) (all es now : List Entry) → with_draws es xs ≡ all → xs ≡ x ∷ left → now ≡ together es (view x.worker.desk).draws → with_draws now left ≡ all
+drawn_with xs left x all es now had is drew = ap (λ (l : List Entry). with_draws l left) drew ∙ sym (ap (with_draws es) is) ∙ had

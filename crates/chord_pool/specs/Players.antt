@@ -1,8 +1,9 @@
 -- Workers of one run: which of them may draw, which have nothing to play, and how they are handed to threads and come back.
-use Rattle.std.specs.Prelude.{◌≡◌, ◌≢◌, ◌⊎◌, ◌<◌, ◌≤◌, ◌+◌, ◌-◌, ℕ, Bool, false, true, if◌then◌else◌, List, [], ◌∷◌, ◌++◌, length, min, Some, None, All}
+use Rattle.std.specs.Prelude.{◌≡◌, ◌≢◌, ◌⊎◌, ◌<◌, ◌≤◌, ◌+◌, ◌-◌, ℕ, Bool, false, true, if◌then◌else◌, ◌||◌, List, [], ◌∷◌, ◌++◌, length, min, Some, None, All}
 use Rattle.atomic_table.specs.Seated.{TableId}
 use Rattle.chord_base.specs.declared.event.Limits.{Limits}
-use Rattle.chord_base.specs.Story.{IsSound}
+use Rattle.chord_base.specs.declared.event.Entry.{Entry}
+use Rattle.chord_base.specs.Story.{IsSound, together}
 use Rattle.chord_code.specs.declared.parts.Parts.{Parts}
 use Rattle.chord_rule.specs.declared.view.Look.{Look}
 use Rattle.chord_rule.specs.declared.view.View.{View}
@@ -303,6 +304,16 @@ HaveAllLeftOff knows s [] (y ∷ ys) = ⊥
 HaveAllLeftOff knows s (x ∷ xs) [] = ⊥
 HaveAllLeftOff knows s (x ∷ xs) (y ∷ ys) = HasLeftOff knows s x y × HaveAllLeftOff knows s xs ys
 
+-- whether one of these players failed
+abbrev pub any_failed : List Player → Bool
+any_failed [] = false
+any_failed (x ∷ xs) = x.failed || any_failed xs
+
+-- these entries together with all that the desks of these players drew
+abbrev pub with_draws : List Entry → List Player → List Entry
+with_draws es [] = es
+with_draws es (x ∷ xs) = with_draws (together es (view x.worker.desk).draws) xs
+
 -- a player that was hired may go on, has nothing to play yet, does not count among those at work and has not read how many do: it knows of no number, and none of its looks found none
 pub record IsHired (s : Space Parcel) (x : Player) : Type 0 where
   pub may : MayPlay s x
@@ -349,3 +360,18 @@ pub record IsBack (s : Space Parcel) (main : Worker) (others : List Player) : Ty
   pub drawn : (view main.desk).drawn ≡ true
   pub lent : (view main.desk).lent ≡ length others
   pub all : HaveAllPlayed s others
+
+-- a player with the task of this worker and as many others that it hired as make so many workers had rounds and left off, none of them failed, and what their desks drew is all that the desk of the last worker drew
+pub record HavePlayedTogether (knows : ℕ → Type 0) (s : Space Parcel) (workers : ℕ) (main last : Worker) : Type 0 where
+  pub before : Player
+  pub after : Player
+  pub others : List Player
+  pub backs : List Player
+  pub task : before.worker.task ≡ main.task
+  pub count : length others + 1 ≡ workers
+  pub all : AreHired s others
+  pub sane : after.failed ≡ false
+  pub all_sane : any_failed backs ≡ false
+  pub off : HasLeftOff knows s before after
+  pub all_off : HaveAllLeftOff knows s others backs
+  pub draws : (view last.desk).draws ≡ with_draws (view after.worker.desk).draws backs

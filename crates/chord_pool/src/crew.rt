@@ -1,8 +1,9 @@
 //! The first worker hires the others, and takes them in when they have come back.
-ghost use Rattle.std.specs.Prelude.{◌≡◌, ◌+◌, ◌<◌, ◌≤◌, [], ◌∷◌, List, IfOk, length};
+ghost use Rattle.std.specs.Prelude.{◌≡◌, ◌+◌, ◌<◌, ◌≤◌, false, [], ◌∷◌, List, IfOk, length};
+ghost use Rattle.chord_base.specs.Story.{together};
 ghost use Rattle.chord_pool.specs.declared.player.Player.{Player as ThePlayer};
 ghost use Rattle.chord_space.specs.Desks.{view};
-ghost use Rattle.chord_pool.specs.Players.{IsCrew, AreCards, IsBack};
+ghost use Rattle.chord_pool.specs.Players.{IsCrew, AreCards, IsBack, any_failed, with_draws};
 
 use crate::player::Player;
 use chord_space::Space;
@@ -22,6 +23,7 @@ fn hire_one(
     ensures same { main.new.failed ≡ main.old.failed }
     ensures crew { IfOk result (λ _. IsCrew space.now main.new.worker others.new.items × ((view main.new.worker.desk).splits ≡ length others.new.items) × (length others.new.items ≡ length others.old.items + 1)) }
     ensures cards { IfOk result (λ _. AreCards main.new.card others.new.items) }
+    ensures task { IfOk result (λ _. main.new.worker.task ≡ main.old.worker.task) }
 {
     let card = main.card.hire()?;
     let worker = main.worker.hired(alloc, space);
@@ -43,6 +45,7 @@ pub(crate) fn hire(
     ensures crew { IfOk result (λ others. IsCrew space.now main.new.worker others.items) }
     ensures cards { IfOk result (λ others. AreCards main.new.card others.items) }
     ensures count { IfOk result (λ others. ((view main.new.worker.desk).splits ≡ length others.items) × (length others.items + 1 ≡ workers)) }
+    ensures task { IfOk result (λ _. main.new.worker.task ≡ main.old.worker.task) }
 {
     let mut others = Vec::new(alloc);
     for _ in 1..workers {
@@ -56,6 +59,8 @@ fn take_one(space: &Space<Parcel>, main: &mut Worker, player: Player) -> Result<
     requires back { (rest : List ThePlayer) × IsBack space.now main.old (player ∷ rest) }
     ensures back { IfOk result (λ _. (rest : List ThePlayer) → IsBack space.now main.old (player ∷ rest) → IsBack space.now main.new rest) }
     ensures splits { (view main.new.desk).splits ≡ (view main.old.desk).splits }
+    ensures sane { IfOk result (λ _. player.failed ≡ false) }
+    ensures drew { IfOk result (λ _. (view main.new.desk).draws ≡ together (view main.old.desk).draws (view player.worker.desk).draws) }
 {
     if player.failed {
         return Err(AllocError);
@@ -77,6 +82,8 @@ pub(crate) fn take_all(
     requires back { IsBack space.now main.old others.items }
     ensures back { IfOk result (λ _. IsBack space.now main.new []) }
     ensures splits { IfOk result (λ _. (view main.new.desk).splits ≡ (view main.old.desk).splits) }
+    ensures sane { IfOk result (λ _. any_failed others.items ≡ false) }
+    ensures drew { IfOk result (λ _. (view main.new.desk).draws ≡ with_draws (view main.old.desk).draws others.items) }
 {
     for player in others {
         take_one(space, main, player)?;

@@ -1,5 +1,5 @@
 //! Many threads play one run.
-ghost use Rattle.std.specs.Prelude.{◌≡◌, ◌⊎◌, ◌+◌, ◌<◌, ◌≤◌, false, [], IfOk, length, reverse};
+ghost use Rattle.std.specs.Prelude.{◌≡◌, ◌≢◌, ◌⊎◌, ◌+◌, ◌<◌, ◌≤◌, false, [], IfOk, length, reverse};
 ghost use Rattle.chord_base.specs.declared.event.Entry.{Entry};
 ghost use Rattle.chord_base.specs.Machine.{IsRun, IsComplete};
 ghost use Rattle.chord_base.specs.Story.{IsIn};
@@ -9,8 +9,9 @@ ghost use Rattle.chord_rule.specs.Kinds.{newcomer_first};
 ghost use Rattle.chord_space.specs.Desks.{view, IsDeskOf};
 ghost use Rattle.chord_space.specs.Ends.{parcels, closing_view};
 ghost use Rattle.chord_worker.specs.Stepping.{PlaysMain};
+ghost use Rattle.chord_worker.specs.declared.worker.Worker.{Worker as TheWorker};
 ghost use Rattle.chord_pool.specs.declared.ending.Alone.{Alone as TheAlone};
-ghost use Rattle.chord_pool.specs.Players.{IsOneRun, IsCrew, IsBack};
+ghost use Rattle.chord_pool.specs.Players.{IsOneRun, IsCrew, IsBack, any_failed, with_draws, HavePlayedTogether};
 ghost use Rattle.chord_pool.specs.Ending.{HasLeftOffAlone, IsLast, IsRunOver};
 
 use crate::closing::finish;
@@ -40,6 +41,8 @@ fn taken_in(space: &Space<Parcel>, main: Player, others: Vec<Player>) -> Result<
     ensures last { IfOk result (λ last. IsLast space.now last) }
     ensures sane { IfOk result (λ _. main.failed ≡ false) }
     ensures splits { IfOk result (λ last. (view last.desk).splits ≡ (view main.worker.desk).splits) }
+    ensures all_sane { IfOk result (λ _. any_failed others.items ≡ false) }
+    ensures drew { IfOk result (λ last. (view last.desk).draws ≡ with_draws (view main.worker.desk).draws others.items) }
 {
     if main.failed {
         return Err(AllocError);
@@ -64,6 +67,7 @@ fn play_together<'a, R: Threads + Wait + Sync, G: Gate + Sync>(
     ensures last { IfOk result (λ last. IsLast run.now.space.now last) }
     ensures crew { IfOk result (λ last. (view last.desk).splits + 1 ≡ workers) }
     ensures told { IfOk result (λ _. G.knows 0) }
+    ensures together { IfOk result (λ last. HavePlayedTogether G.knows run.now.space.now workers main last) }
 {
     let mut main = Player::new(main, Card::first(alloc)?);
     let others = hire(alloc, run.space, &mut main, workers)?;
@@ -89,7 +93,7 @@ fn play_all<'a, R: Threads + Wait + Sync, G: Gate + Sync>(
     ensures over { IfOk result (λ last. IsRunOver run.now.space.now last) }
     ensures crew { IfOk result (λ last. (view last.desk).splits + 1 ≡ workers) }
     ensures told { IfOk result (λ _. G.knows 0) }
-    ensures alone { IfOk result (λ last. workers ≡ 1 → (begin : TheAlone) × PlaysMain begin.worker × (begin.place ≡ 0) × HasLeftOffAlone G.knows run.now.space.now begin last) }
+    ensures alone { IfOk result (λ last. (begin : TheAlone) × (workers ≡ 1 → PlaysMain begin.worker) × (workers ≢ 1 → IsLast run.now.space.now begin.worker × (main : TheWorker) × PlaysMain main × HavePlayedTogether G.knows run.now.space.now workers main begin.worker) × (begin.place ≡ 0) × HasLeftOffAlone G.knows run.now.space.now begin last) }
 {
     let main = Worker::main(alloc, run.space, run.code, run.limits, desk)?;
     // One that hires nobody is alone from the beginning: it needs no thread, and looks for nothing that others might have posted.
@@ -109,9 +113,9 @@ fn play_all<'a, R: Threads + Wait + Sync, G: Gate + Sync>(
 /// `limits.events` is 1 to 65,536, `limits.depth` 1 to 256, `workers` 1 to 64. A journal of fewer entries is complete. The table
 /// drew the entries of the journal, in its order, and each entry that the desk that closed it kept stands there; it has given its memory back, and no parcel is
 /// left. That desk is the first one, and each other worker had a desk that was split from it. `gate.started` is called for each body by the worker that
-/// begins to play it; that the gate knows of `Main` is a clause, that it knows of each other one is said of what each worker does at
-/// its thread (`HasLeftOff`) and of what the first one does alone (`HasLeftOffAlone`), and that it is told once is tested. It is
-/// not promised that the call returns.
+/// begins to play it; that the gate knows of `Main` is a clause, that this gate knows of each other one is said by the private call
+/// that plays all, of what the workers do together (`HavePlayedTogether`) and of what the first one does alone (`HasLeftOffAlone`),
+/// and that it is told once is tested. It is not promised that the call returns.
 ///
 /// # Errors
 ///

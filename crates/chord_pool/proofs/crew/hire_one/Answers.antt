@@ -28,4 +28,5 @@ returns c =
           (hired s c.args.main.now.worker after c.args.others.now.items one was.0 was.1 h.mine.0 h.mine.1 h.mine.2 new);
       cards = subst (λ (xs : List Player). AreCards c.hire.new.self xs) (sym c.in_ok-push.ensures.items)
           (carded c.args.main.now.card c.hire.new.self c.args.others.now.items one c.requires.cards c.hire.ensures.same.0.0 c.in_ok-card.ensures.other.0 (ap roll_of made.1 ∙ c.in_ok-card.ensures.other.1));
+      task = h.mine.1;
     }
