@@ -74,9 +74,9 @@ fn tidy<P: Carry>(
 
 /// Goes through the bag of this object and method, from its head over the nexts, to the first message that is pending, or that
 /// is not armed; a bag's messages are all different, so the walk ends. Consumed messages that it meets at the head leave the bag,
-/// so that no later walk meets them. The one way that it went tells its answer. On a first
-/// desk that has lent none and has nothing in hand it is never Busy, and the bag's head then leads to no consumed message. On a
-/// desk without a claim, what was read claimed is claimed by another. The heads of other bags are left as they were last read.
+/// so that no later walk meets them. The one way that it went tells its answer. On a first desk that has lent none and has nothing
+/// in hand it is never Busy, and the bag's head then leads nowhere, or to a message that the way read and that is not consumed. On
+/// a desk without a claim, what was read claimed is claimed by another. The heads of other bags are left as they were last read.
 ///
 /// The way knows the messages that had been linked in the bag when its head was read. Bare, or Busy with a claimed message, the
 /// way went to the bag's end, and so each of these was looked at on it or is consumed (`chord_space::laws::ways_miss_none`).

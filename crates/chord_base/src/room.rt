@@ -18,6 +18,17 @@ pub fn reserve_one<T>(list: &mut Vec<T>) -> Result<(), AllocError>
     if list.len() < list.capacity() {
         return Ok(());
     }
+    double(list)
+}
+
+/// Gives a full list twice its room. It stands apart, since a list has room as a rule.
+#[inline(never)]
+fn double<T>(list: &mut Vec<T>) -> Result<(), AllocError>
+    requires full { vec_len list.old ≡ vec_capacity list.old }
+    ensures items { list.new.items ≡ list.old.items }
+    ensures room { OnOk result (vec_len list.new < vec_capacity list.new) }
+    ensures grown { OnOk result (HasGrown (vec_len list.old) (vec_capacity list.old) (vec_capacity list.new)) }
+{
     list.reserve_exact(list.len().max(1))?;
     Ok(())
 }

@@ -5,7 +5,7 @@ ghost use Rattle.chord_classes.specs.Breaks.{AllJoin};
 ghost use Rattle.chord_classes.specs.AllNotes.{LeastIsBreak};
 ghost use Rattle.chord_classes.specs.Laws.{TypesKept, MethodsInherited, ChordsKept, PlanKept};
 
-/// Of two families of rules the break of all is the first of theirs, and a family has at most one.
+/// Of two families of rules, one of which each broken rule is of, the break of all is the first of theirs; and a family has at most one.
 pub fn breaks()
     ensures { AllJoin }
 {}

@@ -60,7 +60,7 @@ fn read(alloc: Global, source: &[u8], text: &[u8]) -> Result<Vec<Token>, LexFaul
 /// The tokens that the source reads as: the one list that there is.
 ///
 /// The source has at most 1,048,576 bytes, so that a place fits 32 bits. At each place the longest reading is taken, as
-/// in ECMA-334's lexical structure. The work is one pass over the bytes, and a second over those of literals and comments.
+/// in ECMA-334's lexical structure. The work is a bounded number of passes over the bytes.
 /// `Memory` comes only for want of memory: for the list, for a name or for a literal.
 /// `Bad(k)` comes exactly where the source has a byte k, the bytes before it are a chain of tokens, blanks and
 /// comments, each as long as it can be in the whole text, and no token, blank or comment begins at k.

@@ -260,7 +260,7 @@ fn clear(slots: &mut Vec<Value>)
 
 /// Adds a copy of each value.
 #[inline(always)]
-pub fn lay_copies(alloc: Global, slots: &mut Vec<Value>, values: &[Value]) -> Result<(), AllocError>
+fn lay_copies(alloc: Global, slots: &mut Vec<Value>, values: &[Value]) -> Result<(), AllocError>
     requires { vec_len slots.old + length values.now ≤ vec_capacity slots.old }
     ensures items { OnOk result (slots.new.items ≡ slots.old.items ++ values.now) }
     ensures capacity { vec_capacity slots.new ≡ vec_capacity slots.old }
@@ -303,7 +303,7 @@ fn open(frames: &mut Frames, block: usize, depth: u32)
     ensures limits { frames.new.limits ≡ frames.old.limits }
     ensures room { KeepsLists frames.old frames.new }
 {
-    frames.top.stack.truncate(0);
+    clear(&mut frames.top.stack);
     frames.below.truncate(0);
     frames.top.block = block;
     frames.top.place = 0;
@@ -511,7 +511,7 @@ fn interrupt(frames: &mut Frames, fresh: Frame, block: usize, room: usize)
     ensures { machine_of frames.new ≡ record { top = record { block = block; place = 0; room = room; stack = []; slots = fresh.slots.items }; below = (machine_of frames.old).top ∷ (machine_of frames.old).below; turns = frames.old.turns } }
 {
     let mut fresh = fresh;
-    fresh.stack.truncate(0);
+    clear(&mut fresh.stack);
     fresh.block = block;
     fresh.place = 0;
     fresh.room = room;
@@ -527,8 +527,8 @@ pub(crate) fn back(frames: &mut Frames)
     ensures stocked { IsInStock frames.old.top frames.new.builder }
 {
     let mut done = mem::replace(&mut frames.top, frames.below.take_last());
-    done.stack.truncate(0);
-    done.slots.truncate(0);
+    clear(&mut done.stack);
+    clear(&mut done.slots);
     frames.builder = Some(done);
 }
 
