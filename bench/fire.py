@@ -10,6 +10,8 @@ import common
 
 ROUNDS = 200000
 FIRINGS = 2000000
+# What the bare steps of i = 0, 1, .. read: two exchanges that succeed, the draw of i, then i twice and i + 1 twice; what `find` reads is 0.
+SUM = sum(5 * i + 4 for i in range(FIRINGS))
 COUNTED = 10000
 RUNS = 20
 
@@ -369,24 +371,27 @@ def counted(command, words):
     return [(more - less) / COUNTED for less, more in zip(counts, counts[1:])]
 
 
-def least(command, count):
-    """The least of each of the first numbers that a command prints, over some runs: other work of the machine adds to a time, and takes nothing from it."""
+def least(command, count, wanted):
+    """The least of each of the first numbers that a command prints, over some runs: other work of the machine adds to a time, and takes nothing from it. Behind
+    them each run prints the words that are wanted."""
     rows = []
     for _ in range(RUNS):
-        ran = subprocess.run(command, stdout=subprocess.PIPE, text=True, check=True)
-        rows.append([float(word) for word in ran.stdout.split()[:count]])
+        words = subprocess.run(command, stdout=subprocess.PIPE, text=True, check=True).stdout.split()
+        assert words[count:] == wanted, f'{command} printed {words}, not {wanted} at the end'
+        rows.append([float(word) for word in words[:count]])
     return [min(column) for column in zip(*rows)]
 
 
 def main():
     with tempfile.TemporaryDirectory() as work, common.built('fire', CRATES, OURS.replace('ROUNDS', str(ROUNDS)).replace('COUNTED', str(COUNTED)), ANSWERS) as (rows, program):
-        assert [int(word) for word in rows[0][3:]] == [ROUNDS, 2 * ROUNDS, 4 * ROUNDS], f'the rounds gave {rows[0]}'
-        making, finding, firing = least([program], 3)
+        gave = [str(ROUNDS), str(2 * ROUNDS), str(4 * ROUNDS)]
+        assert rows[0][3:] == gave, f'the rounds gave {rows[0]}'
+        making, finding, firing = least([program], 3, gave)
         with open(f'{work}/bare.c', 'w', encoding='utf-8') as file:
             file.write(THEIRS)
         bare = f'{work}/bare'
         subprocess.run([os.environ.get('CC', 'cc'), '-O2', '-o', bare, f'{work}/bare.c'], check=True)
-        find, fire = least([bare, str(FIRINGS), 'fire'], 2)
+        find, fire = least([bare, str(FIRINGS), 'fire'], 2, [str(SUM)])
         common.tell('find', (finding - making) * 1e3 / ROUNDS, find, 'ns')
         common.tell('fire', (firing - finding) * 1e3 / ROUNDS, fire, 'ns')
         common.tell('both', (firing - making) * 1e3 / ROUNDS, find + fire, 'ns')

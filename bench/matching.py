@@ -10,6 +10,9 @@ import tempfile
 import common
 
 PAIRS = 8000
+ROUNDS = 5000000
+# What the bare steps of i = 0, 1, .. read: what both cells held from 64 rounds before, two exchanges that succeed, the draw of i, then i twice and i + 1 twice.
+SUM = sum(2 * max(i - 63, 0) + 5 * i + 4 for i in range(ROUNDS))
 HEAD = 'class A{public async X()&public async Y(){}public async Z()&public async W(){}}class Q{static void Main(){A a=new A();'
 FIRED = 'a.X();a.Y();'
 LEFT = 'a.X();a.Z();'
@@ -20,7 +23,7 @@ THEIRS = '''
 #include <stdio.h>
 #include <time.h>
 
-#define FIRINGS 5000000l
+#define FIRINGS ROUNDSl
 
 static _Atomic uint64_t words[256];
 
@@ -52,9 +55,11 @@ def in_c():
     """The nanoseconds of the bare steps of one firing."""
     with tempfile.TemporaryDirectory() as work:
         with open(f'{work}/bare.c', 'w', encoding='utf-8') as file:
-            file.write(THEIRS)
+            file.write(THEIRS.replace('ROUNDS', str(ROUNDS)))
         subprocess.run([os.environ.get('CC', 'cc'), '-O2', '-o', f'{work}/bare', f'{work}/bare.c'], check=True)
-        return float(subprocess.run([f'{work}/bare'], stdout=subprocess.PIPE, text=True, check=True).stdout.split()[0])
+        took, read = subprocess.run([f'{work}/bare'], stdout=subprocess.PIPE, text=True, check=True).stdout.split()
+        assert int(read) == SUM, f'the steps in C read {read}, not {SUM}'
+        return float(took)
 
 
 def nanoseconds(program, pair):

@@ -11,6 +11,9 @@ import common
 
 ROUNDS = 200000
 TABLES = 40
+BARE_STEPS = 50000000
+# What the bare steps of i = 0, 1, .. read: a draw gives i, and an exchange what was put there 16 steps before.
+READ = (BARE_STEPS * (BARE_STEPS - 1) + (BARE_STEPS - 16) * (BARE_STEPS - 17)) // 2
 
 CODE = ('record { classes = record { name = 65 ∷ []; builder = None; methods = record { name = 120 ∷ []; sync = false; parameters = 0 } ∷ []; chords = [] } ∷ []; '
         'blocks = record { slots = 1; instructions = instr.New 0 0 ∷ instr.Send 0 0 ∷ instr.End ∷ [] } ∷ [] }')
@@ -200,7 +203,7 @@ THEIRS = '''
 #include <stdlib.h>
 #include <time.h>
 
-#define STEPS 50000000l
+#define STEPS BARE_STEPSl
 #define EVENTS 65536
 /* the code's class has one method, so an object has one head */
 #define WORDS (1 + 3 * EVENTS)
@@ -250,16 +253,18 @@ int main(void) {
 
 def filled(text):
     """The program with its code, what it knows of the draws, and how often it steps."""
-    return text.replace('SENT', SENT).replace('CODE', CODE).replace('ROUNDS', str(ROUNDS)).replace('TABLES', str(TABLES))
+    return text.replace('SENT', SENT).replace('CODE', CODE).replace('ROUNDS', str(ROUNDS)).replace('TABLES', str(TABLES)).replace('BARE_STEPS', str(BARE_STEPS))
 
 
 def in_c():
-    """The words that the bare operations print."""
+    """The times that the bare operations print."""
     with tempfile.TemporaryDirectory() as work:
         with open(f'{work}/bare.c', 'w', encoding='utf-8') as file:
             file.write(filled(THEIRS))
         subprocess.run([os.environ.get('CC', 'cc'), '-O2', '-o', f'{work}/bare', f'{work}/bare.c'], check=True)
-        return [float(word) for word in subprocess.run([f'{work}/bare'], stdout=subprocess.PIPE, text=True, check=True).stdout.split()]
+        *times, read = subprocess.run([f'{work}/bare'], stdout=subprocess.PIPE, text=True, check=True).stdout.split()
+        assert int(read) == READ, f'the steps in C read {read}, not {READ}'
+        return [float(word) for word in times]
 
 
 def main():

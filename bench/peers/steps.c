@@ -94,6 +94,17 @@ static void *play(void *argument) {
     return NULL;
 }
 
+// Whether so many numbers were drawn, and half of their cells are of messages and calls that were consumed: all others were never written.
+static int is_complete(unsigned long drawn) {
+    unsigned long consumed = 0, written = 0;
+    for (unsigned long number = 0; number < EVENTS; number++) {
+        unsigned long state = atomic_load(cell(number));
+        consumed += state == CONSUMED;
+        written += state != 0;
+    }
+    return atomic_load(words) == drawn && 2 * consumed == drawn && written == consumed;
+}
+
 int main(int count, char **arguments) {
     int threads = count == 2 ? atoi(arguments[1]) : 1;
     if (threads < 1 || threads > MOST_THREADS) return 2;
@@ -110,5 +121,7 @@ int main(int count, char **arguments) {
         if (pthread_create(&made[i], NULL, play, &workers[i])) return 1;
     }
     for (int i = 0; i < threads; i++) pthread_join(made[i], NULL);
-    printf("%.0f\n", (seconds() - start) / FIRINGS * 1e9);
+    double took = seconds() - start;
+    if (!is_complete(4ul * (FIRINGS / threads) * threads)) return 1;
+    printf("%.0f\n", took / FIRINGS * 1e9);
 }
