@@ -1,7 +1,8 @@
 //! What happens in a run: the entries of its journal.
 #![tactic(auto)]
 
-ghost use Rattle.std.specs.Prelude.{◌≡◌, IfOk};
+ghost use Rattle.std.specs.Prelude.{◌≡◌, IfOk, IsOk};
+ghost use Rattle.chord_base.specs.Copies.{IsAlwaysCopied};
 
 use crate::members::Members;
 use crate::text::Text;
@@ -73,9 +74,11 @@ pub struct Limits {
 }
 
 impl End {
-    /// An equal end.
+    /// An equal end. It is always made where it is a trap, or where a copy of its value is.
     pub fn copied(&self, alloc: Global) -> Result<End, AllocError>
-        ensures { IfOk result (λ e. e ≡ self.now) }
+        ensures equal { IfOk result (λ e. e ≡ self.now) }
+        ensures short { (v : Value) → self.now ≡ End.Gives v → IsAlwaysCopied v → IsOk result }
+        ensures trap { (t : Trap) → self.now ≡ End.Traps t → IsOk result }
     {
         match self {
             End::Gives(value) => Ok(End::Gives(value.copied(alloc)?)),

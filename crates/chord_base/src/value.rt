@@ -1,7 +1,7 @@
 //! Values of the language, and lists of them.
 #![tactic(auto)]
 
-ghost use Rattle.std.specs.Prelude.{◌≡◌, ◌+◌, ◌≤◌, List, [], ◌∷◌, ◌++◌, length, vec_len, vec_capacity, true, IfOk, IsOk, OnOk};
+ghost use Rattle.std.specs.Prelude.{◌≡◌, ◌+◌, ◌≤◌, List, [], ◌∷◌, ◌++◌, length, vec_len, vec_capacity, true, All, IfOk, IsOk, OnOk};
 ghost use Rattle.chord_base.specs.Copies.{IsAlwaysCopied};
 ghost use Rattle.chord_base.specs.Stores.{values_in};
 
@@ -37,7 +37,7 @@ pub enum Value {
 }
 
 impl Value {
-    /// An equal value. It fails only where a text of more than 8 bytes has too many owners to be counted.
+    /// An equal value. It is always made but of a text of more than 8 bytes, which has too many owners to be counted where it fails.
     pub fn copied(&self, alloc: Global) -> Result<Value, AllocError>
         ensures equal { IfOk result (λ v. v ≡ self.now) }
         ensures short { IsAlwaysCopied self.now → IsOk result }
@@ -96,7 +96,8 @@ fn copies_of(alloc: Global, values: &[Value]) -> Result<Vec<Value>, AllocError>
 /// Copies of these values. Up to one value asks for no memory.
 #[inline(always)]
 fn stored_copies(alloc: Global, values: &[Value]) -> Result<Store, AllocError>
-    ensures { IfOk result (λ store. values_in store ≡ values.now) }
+    ensures equal { IfOk result (λ store. values_in store ≡ values.now) }
+    ensures short { length values.now ≤ 1 → All IsAlwaysCopied values.now → IsOk result }
 {
     match values {
         [] => Ok(Store::Nothing),
@@ -233,9 +234,10 @@ impl Values {
         }
     }
 
-    /// An equal list.
+    /// An equal list. One of up to one value is always made where a copy of that value is.
     pub fn copied(&self, alloc: Global) -> Result<Values, AllocError>
-        ensures { IfOk result (λ v. v ≡ self.now) }
+        ensures equal { IfOk result (λ v. v ≡ self.now) }
+        ensures short { length self.now ≤ 1 → All IsAlwaysCopied self.now → IsOk result }
     {
         let values = stored_copies(alloc, self.items())?;
         Ok(Values { values })
