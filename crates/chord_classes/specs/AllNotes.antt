@@ -37,7 +37,7 @@ member_keys table class member = keys 2 (undeclared_member table member) ++ keys
 abbrev pub all_notes : ProgramTree → Notes Site ℕ
 all_notes program = record { at_term = term_keys; at_item = item_keys; at_member = member_keys (table_of program) }
 
--- The least number that is noted is the break of the program, and where none is noted it breaks none of these rules.
+-- The least number that is noted is the break of the program among the rules on names and types, and where none is noted it breaks none of these.
 pub record IsLeastBreak (program : ProgramTree) : Type 0 where
   pub some : (rule at : ℕ) → least None (in_program program (all_notes program)) ≡ Some (32 * at + rule) → rule < 32 → IsBreak is_type_rule program rule at
   pub none : least None (in_program program (all_notes program)) ≡ None → IsFree is_type_rule program

@@ -30,7 +30,7 @@ pub record ChordKept (sig : Signatures) (class : ℕ) (methods : List ℕ) (body
   pub parameters : AreConcatenated sig class methods body.parameters
   pub result : gives sig class methods body.result
 
--- This holds of each chord but that of `Main`, where headers of one name agree.
+-- Where the headers of one name agree in a program, this holds of each of its chords but that of `Main`.
 abbrev pub ChordsKept : Type 0
 ChordsKept =
     (p : ProgramTree) → IsFree is_header_rule p → (n k d : ℕ) (class : ClassTree) (headers : List HeaderTree) (body : BlockTree)

@@ -25,7 +25,7 @@ pub record IsOwning (old new : Owners) (version made : Option ℕ) (adds : List 
   pub is_owned : IsOwned new made
   pub each : (name : List ℕ) → owner_in new made name ≡ cond (adds name) (Some owner) (owner_in old version name)
 
--- names came behind those that were there, and for each at most as many forks as the number of names has halves
+-- names came behind those that were there, and together no more forks than they have names, each taken as often as the number of all names has halves
 pub record AddsNames (old new : Owners) (more : List (List ℕ)) : Type 0 where
   pub names : new.names ≡ old.names ++ more
   pub few : (halves : ℕ) → length new.names < 2 ^ halves → length new.versions ≤ length old.versions + length more * halves
@@ -85,5 +85,5 @@ pub record IsShapeTable (shapes : List Shape) (entries : List Entry) (names : Li
   pub are : AreEntries shapes entries names
   pub mapped : (class : ℕ) (entry : Entry) → slice_get entries class ≡ Some entry → IsMapped shapes entries lines owners class entry
   pub owns : AddsNames no_owners owners (new_names entries)
-  -- a class takes at most as many forks as the number of classes has halves
+  -- together the classes take no more forks than there are classes, each taken as often as their number has halves
   pub few : (halves : ℕ) → length entries < 2 ^ halves → length lines ≤ length entries * halves

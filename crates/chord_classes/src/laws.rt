@@ -15,8 +15,8 @@ pub fn types()
     ensures { TypesKept }
 {}
 
-/// A class has the methods of the classes that it derives from, with the same signatures. The body of a chord has its methods'
-/// parameters laid together, and gives the result of the synchronous one, in its own class and in those that derive from it.
+/// A class has the methods of the classes that it derives from, with the same signatures. Where the headers of one name agree, the body of each chord but that
+/// of `Main` has its methods' parameters laid together, and gives the result of the synchronous one, in its own class and in those that derive from it.
 pub fn methods()
     ensures inherited { MethodsInherited }
     ensures chords { ChordsKept }
@@ -27,7 +27,7 @@ pub fn plan()
     ensures { PlanKept }
 {}
 
-/// The least number that is noted on one walk for all rules on names and types is the break of the program.
+/// The least number that is noted on one walk for all rules on names and types is the break of the program among these.
 pub fn least()
     ensures { LeastIsBreak }
 {}

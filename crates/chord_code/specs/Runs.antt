@@ -36,7 +36,7 @@ pub record ServesMethod (program : Program) (sig : Signatures) (history : List E
   pub is_message : sent call history ≡ Some message
   pub found : sig.methods message.object.class message.method ≡ Some method
 
--- The result type of a body: that of the method whose call it serves, and none where it serves no call. What it says of a history it says of each longer one.
+-- The result type of a body: that of the method whose call it serves, and none where it serves no call. What it says of a history in which the body has begun it says of each longer one.
 abbrev pub IsResultType : Program → Signatures → List Entry → ℕ → Option StaticType → Type 0
 IsResultType program sig history body result =
     ((serves program body history ≡ None) × (result ≡ None)) ⊎ ((method : Signature) × ServesMethod program sig history body method × (result ≡ method.result))

@@ -78,8 +78,8 @@ fn heads_of(code: &Code) -> usize
 
 /// So many words that are 0, which a table for these events copies.
 ///
-/// Their memory is given back once the table is made, with that of a list of its slots beside it. The two have room for an entry of each event then, so that
-/// the first list of a run lies in pages that were touched before, also where classes are small.
+/// Their memory is given back once the table is made, with that of a list of its slots beside it. Together the two have room for an entry of each event, also
+/// where classes are small, so that the first list of a run may lie there, in pages of which most were touched before.
 fn zeros(alloc: Global, words: usize, events: usize) -> Result<Vec<u64>, AllocError>
     requires few { events ≤ 65536 }
     ensures { IfOk result (λ zeros. zeros.items ≡ replicate words 0) }

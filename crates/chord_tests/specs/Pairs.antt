@@ -148,7 +148,7 @@ pub record KeepsFiring (v : View) (ms : List ℕ) (f : ℕ) : Type 0 where
   pub unposted : HasNumber f v.unposted
 
 -- both messages are pending, and the desk has a duty on each
-pub record HasBoth (v : View) : Type 0 where
+pub record HasBothPending (v : View) : Type 0 where
   pub hand : HasInHand v sent_both [] None []
   pub x : Owes v 2 (key first_object 0)
   pub y : Owes v 3 (key first_object 1)

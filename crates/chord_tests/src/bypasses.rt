@@ -9,7 +9,7 @@ ghost use Rattle.chord_rule.specs.Tells.{a_word, IsNewClaim};
 ghost use Rattle.chord_rule.specs.Ways.{WentPast};
 ghost use Rattle.chord_word.specs.declared.cells.Cell.TheVariants.{Claimed};
 ghost use Rattle.chord_space.specs.Desks.{view, heads, IsDeskOf, IsSameDesk};
-ghost use Rattle.chord_tests.specs.Pairs.{IsPairTable, HasBoth, HasClaimedBoth};
+ghost use Rattle.chord_tests.specs.Pairs.{IsPairTable, HasBothPending, HasClaimedBoth};
 
 use crate::codes::{FIRST, Letter, coded, table};
 use crate::hands::{arm_y, begun, find_no_y, link_y, put_x, see, send_x, send_y};
@@ -25,7 +25,7 @@ fn put_both(alloc: Global, space: &Space<Letter>, desk: &mut Desk<Letter>) -> Re
     requires table { IsPairTable false space.now × (4 ≤ space.now.events) }
     requires desk { IsDeskOf space.now desk.old × (view desk.old ≡ newcomer_first) }
     ensures desk { IsSameDesk desk.old desk.new }
-    ensures both { OnOk result (HasBoth (view desk.new)) }
+    ensures both { OnOk result (HasBothPending (view desk.new)) }
 {
     begun(space, desk, false)?;
     send_x(alloc, space, desk)?;
@@ -51,7 +51,7 @@ fn claim_known(space: &Space<Letter>, desk: &mut Desk<Letter>, i: u32) -> Result
 /// Both messages are read pending with no other behind them, and claimed.
 fn claim_both(space: &Space<Letter>, desk: &mut Desk<Letter>) -> Result<(), Fail>
     requires table { 4 ≤ space.now.events }
-    requires desk { IsDeskOf space.now desk.old × HasBoth (view desk.old) }
+    requires desk { IsDeskOf space.now desk.old × HasBothPending (view desk.old) }
     ensures desk { IsSameDesk desk.old desk.new }
     ensures claimed { OnOk result (HasClaimedBoth (view desk.new) None) }
 {
