@@ -54,7 +54,7 @@ pub struct Task {
     pub values: Option<Vec<Value>>,
     /// The limits of its run.
     pub limits: Limits,
-    /// The arguments of the call with which it is on its way. There are none while it is with a worker.
+    /// The arguments of the call with which it is on its way. A parcel that is opened leaves none here; that a task has none while it is with a worker no clause says.
     pub enclosed: Enclosed,
 }
 
@@ -435,6 +435,7 @@ impl Task {
         ensures kept { LosesNothing code.now self.old self.new }
         ensures entries { vec_len list.old < vec_capacity list.old → list.new ≡ list.old }
         ensures grown { OnOk result ((HasGrown (vec_len self.old.below) (vec_capacity self.old.below) (vec_capacity self.new.below)) × HasGrown (vec_len list.old) (vec_capacity list.old) (vec_capacity list.new)) }
+        ensures lean { OnOk result (self.old.values ≡ None → IsSomeAnd self.new.values (λ list. vec_capacity list ≡ 64)) }
     {
         self.take_room(alloc, code, list)
     }
@@ -465,6 +466,7 @@ impl Task {
         ensures enclosed { self.new.enclosed ≡ self.old.enclosed }
         ensures entries { vec_len list.old < vec_capacity list.old → list.new ≡ list.old }
         ensures grown { OnOk result ((HasGrown (vec_len self.old.below) (vec_capacity self.old.below) (vec_capacity self.new.below)) × HasGrown (vec_len list.old) (vec_capacity list.old) (vec_capacity list.new)) }
+        ensures lean { OnOk result (self.old.values ≡ None → IsSomeAnd self.new.values (λ list. vec_capacity list ≡ 64)) }
     {
         reserve_one(list)?;
         reserve_one(&mut self.below)?;
