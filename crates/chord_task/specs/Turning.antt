@@ -96,7 +96,7 @@ pub record HasSettled (code : Parts) (before : Task) (n : ℕ) (w : What) (after
   pub noted : task_noted (view_of before) n w (view_of after)
   pub top : is_end w ≡ false → (view_of after).top ≡ (view_of before).top
 
--- of arguments that were taken nothing is left, or a lone number
+-- of arguments that were taken no value is left, or a lone number
 abbrev pub AreBare : List Value → Type 0
 AreBare [] = Unit {0}
 AreBare (a_value.Int n ∷ []) = Unit {0}
@@ -108,7 +108,7 @@ IsBareEnd (Gives a_value.Unit) = Unit {0}
 IsBareEnd (Gives (a_value.Int n)) = Unit {0}
 IsBareEnd _ = ⊥
 
--- nothing is left of the ask that lies in memory of its own
+-- what is left of an ask, if anything: a class, a message without values but a lone number, or an end by a number or without a value. Such values may still lie in a list with memory of its own, since contracts see the values alone
 abbrev pub OwnsNothing : Option Ask → Type 0
 OwnsNothing None = Unit {0}
 OwnsNothing (Some (asks.Make c)) = Unit {0}

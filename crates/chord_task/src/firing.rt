@@ -43,6 +43,7 @@ impl Task {
         ensures listed { AddsOne self.old.past self.new.past list.old.items list.new.items }
         ensures ended { self.new.ended ≡ self.old.ended }
         ensures values { self.new.values ≡ self.old.values }
+        ensures callers { vec_capacity self.new.below ≡ vec_capacity self.old.below }
     {
         let depth = depth_over(self.limits.depth, &self.top);
         match self.spare.take() {
@@ -89,6 +90,7 @@ impl Task {
         ensures listed { AddsOne self.old.past self.new.past list.old.items list.new.items }
         ensures ended { self.new.ended ≡ self.old.ended }
         ensures values { self.new.values ≡ self.old.values }
+        ensures callers { vec_capacity self.new.below ≡ vec_capacity self.old.below }
     {
         let arguments = arguments.into_args();
         self.resume_on(code, number, chord, object, members, arguments, list);
@@ -117,6 +119,7 @@ impl Task {
         ensures listed { AddsOne self.old.past self.new.past list.old.items list.new.items }
         ensures ended { self.new.ended ≡ self.old.ended }
         ensures values { self.new.values ≡ self.old.values }
+        ensures callers { vec_capacity self.new.below ≡ vec_capacity self.old.below }
     {
         match arguments.contents {
             Contents::Nothing => {
@@ -162,6 +165,7 @@ impl Task {
         ensures top { (view_of self.new).top ≡ Some number }
         ensures listed { AddsOne self.old.past self.new.past list.old.items list.new.items }
         ensures ended { self.new.ended ≡ self.old.ended }
+        ensures callers { vec_capacity self.new.below ≡ vec_capacity self.old.below }
     {
         let Gathered { one, more } = arguments;
         match more {

@@ -54,7 +54,7 @@ pub struct Task {
     pub values: Option<Vec<Value>>,
     /// The limits of its run.
     pub limits: Limits,
-    /// The arguments of the call with which it is on its way. There are none while it is with a worker.
+    /// The arguments of the call with which it is on its way. A parcel that is opened leaves none here; that a task has none while it is with a worker no clause says.
     pub enclosed: Enclosed,
 }
 
@@ -260,6 +260,7 @@ pub(crate) fn put_on_top(
     requires waits { WaitsIfAny top.old }
     ensures top { top.new ≡ Some (record { number = number; frames = frames; next = Next.Runs }) }
     ensures below { below.new.items ≡ below.old.items ++ callers_of top.old }
+    ensures callers { vec_capacity below.new ≡ vec_capacity below.old }
 {
     match top {
         None => put_first(top, number, frames),
@@ -297,6 +298,7 @@ fn begun(list: &mut Vec<Entry>) -> Result<Past, AllocError>
     ensures past { IfOk result (λ past. past ≡ record { number = 0; body = 0; what = What.Begun } ∷ []) }
     ensures listed { OnOk result (list.new.items ≡ list.old.items ++ record { number = 0; body = 0; what = What.Begun } ∷ []) }
     ensures kept { OnErr result (list.new.items ≡ list.old.items) }
+    ensures grown { OnOk result (HasGrown (vec_len list.old) (vec_capacity list.old) (vec_capacity list.new)) }
 {
     reserve_one(list)?;
     let mut past = Past::none();
@@ -328,6 +330,7 @@ impl Task {
         ensures lean { IfOk result (λ t. (t.spare ≡ None) × (t.ended ≡ None) × (t.values ≡ None) × (vec_capacity t.below ≡ 0)) }
         ensures listed { OnOk result (list.new.items ≡ list.old.items ++ record { number = 0; body = 0; what = What.Begun } ∷ []) }
         ensures kept { OnErr result (list.new.items ≡ list.old.items) }
+        ensures grown { OnOk result (HasGrown (vec_len list.old) (vec_capacity list.old) (vec_capacity list.new)) }
     {
         let _parts = code.parts();
         let mut frames = new_frames(alloc, code, limits)?;
@@ -349,7 +352,7 @@ impl Task {
         })
     }
 
-    /// No body, and room for one: for one caller, frames as chord_vm's `spare` makes them, a list of 64 values, and nothing else.
+    /// No body, and room for one: for one caller, frames as chord_vm's `blank` makes them, a list of 64 values, and nothing else.
     pub fn spare(alloc: Global, code: &Code, limits: &Limits) -> Result<Task, AllocError>
         ensures task { IfOk result (λ t. IsTaskOf code.now limits.now t) }
         ensures past { IfOk result (λ t. (view_of t).past ≡ []) }
@@ -385,6 +388,7 @@ impl Task {
         ensures gave { IfOk result (λ ask. HasGiven self.new (what_of_ask ask)) }
         ensures next { IfOk result (λ ask. IsNext (code_program code.now limits.now) (view_of self.old) (what_of_ask ask)) }
         ensures again { IfOk result (λ ask. (w : AWhat) → HasGiven self.old w → w ≡ what_of_ask ask) }
+        ensures stock { KeepsStock self.old self.new }
     {
         match &mut self.top {
             None => unreachable!(),
@@ -431,6 +435,7 @@ impl Task {
         ensures kept { LosesNothing code.now self.old self.new }
         ensures entries { vec_len list.old < vec_capacity list.old → list.new ≡ list.old }
         ensures grown { OnOk result ((HasGrown (vec_len self.old.below) (vec_capacity self.old.below) (vec_capacity self.new.below)) × HasGrown (vec_len list.old) (vec_capacity list.old) (vec_capacity list.new)) }
+        ensures lean { OnOk result (self.old.values ≡ None → IsSomeAnd self.new.values (λ list. vec_capacity list ≡ 64)) }
     {
         self.take_room(alloc, code, list)
     }
@@ -461,6 +466,7 @@ impl Task {
         ensures enclosed { self.new.enclosed ≡ self.old.enclosed }
         ensures entries { vec_len list.old < vec_capacity list.old → list.new ≡ list.old }
         ensures grown { OnOk result ((HasGrown (vec_len self.old.below) (vec_capacity self.old.below) (vec_capacity self.new.below)) × HasGrown (vec_len list.old) (vec_capacity list.old) (vec_capacity list.new)) }
+        ensures lean { OnOk result (self.old.values ≡ None → IsSomeAnd self.new.values (λ list. vec_capacity list ≡ 64)) }
     {
         reserve_one(list)?;
         reserve_one(&mut self.below)?;
@@ -538,6 +544,7 @@ impl Task {
         ensures listed { AddsOne self.old.past self.new.past list.old.items list.new.items }
         ensures list { HasOneAtMost (for_entry arguments) → IsList self.new.values }
         ensures ended { self.new.ended ≡ self.old.ended }
+        ensures callers { vec_capacity self.new.below ≡ vec_capacity self.old.below }
     {
         let depth = depth_over(self.limits.depth, &self.top);
         let parts = part_all(&mut self.values, arguments);
@@ -585,6 +592,7 @@ impl Task {
         ensures listed { OnOk result (AddsOne self.old.past self.new.past list.old.items list.new.items) }
         ensures ended { self.new.ended ≡ self.old.ended }
         ensures values { self.new.values ≡ self.old.values }
+        ensures callers { vec_capacity self.new.below ≡ vec_capacity self.old.below }
         ensures short { All IsAlwaysCopied values.old → IsOk result }
     {
         let depth = depth_over(self.limits.depth, &self.top);

@@ -62,7 +62,7 @@ changes_block (instr.Init c) = true
 changes_block instr.Back = true
 changes_block _ = false
 
--- The instructions that may take memory: those that push a value, by which the operands may need more room, that make a text or hand one on, that begin a builder, and those that send or call with several values. No other fails for want of it, and so no trap but that of a text that is too long is told as such a want.
+-- The instructions that may take memory: those that push a value, by which the operands may need more room, that make a text or hand one on, that begin a builder, and those that send or call with several values. At no other does `step` fail for want of it, and so it tells no trap but that of a text that is too long as such a want. Of what runs through several instructions clauses say less: where it fails, the machine comes to one of these, and no clause says that it fails there.
 abbrev pub takes_memory : Instruction → Bool
 takes_memory (instr.Int n) = true
 takes_memory (instr.Flag b) = true

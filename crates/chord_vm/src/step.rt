@@ -693,8 +693,8 @@ pub fn take_ask(asked: &mut Option<Ask>) -> Ask
     put(mem::replace(asked, None))
 }
 
-/// Runs to the next ask, which is put where the caller wants it; an ask that stood there is dropped. Where no memory is found, which
-/// happens only at an instruction that may take some, the frames can only be dropped.
+/// Runs to the next ask, which is put where the caller wants it; an ask that stood there is dropped. Where no memory is found, and then
+/// there is an instruction on the way that may take some, the frames can only be dropped.
 #[inline(always)]
 pub fn advance_to(
     alloc: Global,
@@ -710,7 +710,7 @@ pub fn advance_to(
     run(alloc, code.parts(), frames, asked)
 }
 
-/// Runs to the next ask. Where no memory is found, which happens only at an instruction that may take some, the frames can only be dropped.
+/// Runs to the next ask. Where no memory is found, and then there is an instruction on the way that may take some, the frames can only be dropped.
 ///
 /// The turns and the depth that are left stand in the frames, so the limits are not looked at.
 pub fn advance(
