@@ -314,11 +314,12 @@ abbrev pub with_draws : List Entry → List Player → List Entry
 with_draws es [] = es
 with_draws es (x ∷ xs) = with_draws (together es (view x.worker.desk).draws) xs
 
--- a player that was hired may go on, has nothing to play yet and has drawn nothing, does not count among those at work and has not read how many do: it knows of no number, and none of its looks found none
+-- a player that was hired may go on, has nothing to play yet, has drawn nothing and was not told that the limit is reached, does not count among those at work and has not read how many do: it knows of no number, and none of its looks found none
 pub record IsHired (s : Space Parcel) (x : Player) : Type 0 where
   pub may : MayPlay s x
   pub task : x.worker.task ≡ None
   pub undrawn : (view x.worker.desk).draws ≡ []
+  pub room : (view x.worker.desk).spent ≡ false
   pub sane : x.failed ≡ false
   pub uncounted : counts x.card ≡ false
   pub unread : last_read x.card ≡ None

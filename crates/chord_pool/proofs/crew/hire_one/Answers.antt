@@ -17,6 +17,7 @@ returns c =
       may = λ sane. record { rest = subst (IsAtRest s) (sym made.0) h.other.0; over = λ told. task };
       task = task;
       undrawn = ap (λ (w : Worker). (view w.desk).draws) made.0 ∙ h.undrawn;
+      room = ap (λ (w : Worker). (view w.desk).spent) made.0 ∙ h.other.2;
       sane = made.2;
       uncounted = ap counts made.1 ∙ c.in_ok-card.ensures.other.2;
       unread = ap last_read made.1 ∙ c.in_ok-card.ensures.other.5;
