@@ -314,10 +314,12 @@ abbrev pub with_draws : List Entry → List Player → List Entry
 with_draws es [] = es
 with_draws es (x ∷ xs) = with_draws (together es (view x.worker.desk).draws) xs
 
--- a player that was hired may go on, has nothing to play yet, does not count among those at work and has not read how many do: it knows of no number, and none of its looks found none
+-- a player that was hired may go on, has nothing to play yet, has drawn nothing and was not told that the limit is reached, does not count among those at work and has not read how many do: it knows of no number, and none of its looks found none
 pub record IsHired (s : Space Parcel) (x : Player) : Type 0 where
   pub may : MayPlay s x
   pub task : x.worker.task ≡ None
+  pub undrawn : (view x.worker.desk).draws ≡ []
+  pub room : (view x.worker.desk).spent ≡ false
   pub sane : x.failed ≡ false
   pub uncounted : counts x.card ≡ false
   pub unread : last_read x.card ≡ None
@@ -361,13 +363,14 @@ pub record IsBack (s : Space Parcel) (main : Worker) (others : List Player) : Ty
   pub lent : (view main.desk).lent ≡ length others
   pub all : HaveAllPlayed s others
 
--- a player with the task of this worker and as many others that it hired as make so many workers had rounds and left off, none of them failed, and what their desks drew is all that the desk of the last worker drew
+-- a player with the task of this worker, which has drawn what this one has, and as many others that it hired as make so many workers had rounds and left off, none of them failed, and what their desks drew is all that the desk of the last worker drew
 pub record HavePlayedTogether (knows : ℕ → Type 0) (s : Space Parcel) (workers : ℕ) (main last : Worker) : Type 0 where
   pub before : Player
   pub after : Player
   pub others : List Player
   pub backs : List Player
   pub task : before.worker.task ≡ main.task
+  pub drawn : (view before.worker.desk).draws ≡ (view main.desk).draws
   pub count : length others + 1 ≡ workers
   pub all : AreHired s others
   pub sane : after.failed ≡ false

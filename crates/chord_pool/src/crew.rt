@@ -24,6 +24,7 @@ fn hire_one(
     ensures crew { IfOk result (λ _. IsCrew space.now main.new.worker others.new.items × ((view main.new.worker.desk).splits ≡ length others.new.items) × (length others.new.items ≡ length others.old.items + 1)) }
     ensures cards { IfOk result (λ _. AreCards main.new.card others.new.items) }
     ensures task { IfOk result (λ _. main.new.worker.task ≡ main.old.worker.task) }
+    ensures drawn { IfOk result (λ _. (view main.new.worker.desk).draws ≡ (view main.old.worker.desk).draws) }
 {
     let card = main.card.hire()?;
     let worker = main.worker.hired(alloc, space);
@@ -46,6 +47,7 @@ pub(crate) fn hire(
     ensures cards { IfOk result (λ others. AreCards main.new.card others.items) }
     ensures count { IfOk result (λ others. ((view main.new.worker.desk).splits ≡ length others.items) × (length others.items + 1 ≡ workers)) }
     ensures task { IfOk result (λ _. main.new.worker.task ≡ main.old.worker.task) }
+    ensures drawn { IfOk result (λ _. (view main.new.worker.desk).draws ≡ (view main.old.worker.desk).draws) }
 {
     let mut others = Vec::new(alloc);
     for _ in 1..workers {

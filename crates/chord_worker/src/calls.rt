@@ -50,8 +50,8 @@ fn main_task(
 }
 
 impl Worker {
-    /// The first worker, with the desk that the table gave: `Main` begins, and nothing of it is played yet. The counter stands at 0
-    /// then, so that the first draw is never told that the limit is reached.
+    /// The first worker, with the desk that the table gave: `Main` begins, nothing of it is played yet, and it has nothing in
+    /// stock. The counter stands at 0 then, so that the first draw is never told that the limit is reached.
     pub fn main(
         alloc: Global,
         space: &Space<Parcel>,
@@ -62,7 +62,7 @@ impl Worker {
         requires code { (space_code space.now ≡ code.now) × (space_limits space.now ≡ limits.now) }
         requires sound { IsSound (program_of space.now) }
         requires desk { IsDeskOf space.now desk × (view desk ≡ newcomer_first) }
-        ensures { IfOk result (λ w. IsAtRest space.now w × IsSameRole (view desk) (view w.desk) × ((view w.desk).drawn ≡ true) × ((view w.desk).spent ≡ true → w.task ≡ None) × PlaysMain w) }
+        ensures { IfOk result (λ w. IsAtRest space.now w × IsSameRole (view desk) (view w.desk) × ((view w.desk).drawn ≡ true) × ((view w.desk).spent ≡ true → w.task ≡ None) × PlaysMain w × (w.spare ≡ None)) }
     {
         let mut desk = desk;
         let mut draws = Vec::new(alloc);
@@ -81,13 +81,15 @@ impl Worker {
         }
     }
 
-    /// A worker with a desk of its own, which this one lends.
+    /// A worker with a desk of its own, which this one lends: it has nothing to play and nothing in stock, and has drawn nothing.
     pub fn hired(&mut self, alloc: Global, space: &Space<Parcel>) -> Worker
         requires rest { IsAtRest space.now self.old }
         requires first { ((view self.old.desk).first ≡ true) × ((view self.old.desk).splits < 65535) }
         ensures mine { IsAtRest space.now self.new × (self.new.task ≡ self.old.task) × (view self.new.desk ≡ lent_one (view self.old.desk)) }
         ensures frame { self.new ≡ record self.old { desk = self.new.desk } }
         ensures other { IsAtRest space.now result × (result.task ≡ None) × ((view result.desk).spent ≡ false) }
+        ensures undrawn { (view result.desk).draws ≡ [] }
+        ensures empty { result.spare ≡ None }
     {
         Worker {
             desk: space.split(&mut self.desk),

@@ -1,5 +1,6 @@
 use Rattle.std.proofs.Common.{◌≡◌, ◌+◌, List, length, None, subst, sym, ap, ◌∙◌, refl}
 use Rattle.chord_roll.specs.Cards.{counts, last_read, roll_of}
+use Rattle.chord_rule.specs.declared.view.View.{View}
 use Rattle.chord_space.specs.Desks.{view}
 use Rattle.chord_worker.specs.declared.worker.Worker.{Worker}
 use Rattle.chord_worker.specs.Resting.{IsAtRest}
@@ -15,6 +16,8 @@ returns c =
     let new : IsHired s one = record {
       may = λ sane. record { rest = subst (IsAtRest s) (sym made.0) h.other.0; over = λ told. task };
       task = task;
+      undrawn = ap (λ (w : Worker). (view w.desk).draws) made.0 ∙ h.undrawn;
+      room = ap (λ (w : Worker). (view w.desk).spent) made.0 ∙ h.other.2;
       sane = made.2;
       uncounted = ap counts made.1 ∙ c.in_ok-card.ensures.other.2;
       unread = ap last_read made.1 ∙ c.in_ok-card.ensures.other.5;
@@ -29,4 +32,5 @@ returns c =
       cards = subst (λ (xs : List Player). AreCards c.hire.new.self xs) (sym c.in_ok-push.ensures.items)
           (carded c.args.main.now.card c.hire.new.self c.args.others.now.items one c.requires.cards c.hire.ensures.same.0.0 c.in_ok-card.ensures.other.0 (ap roll_of made.1 ∙ c.in_ok-card.ensures.other.1));
       task = h.mine.1;
+      drawn = ap (λ (v : View). v.draws) h.mine.2;
     }

@@ -1,4 +1,5 @@
 use Rattle.std.proofs.Common.{ℕ, ◌+◌, ap, ◌∙◌}
+use Rattle.chord_space.specs.Desks.{view}
 use Rattle.chord_worker.specs.declared.worker.Worker.{Worker}
 use Rattle.chord_pool.proofs.Crews.{come_back}
 use Rattle.chord_pool.proofs.pool.play_together.Goals as goal
@@ -24,6 +25,7 @@ returns-clause-together g c =
       others = c.in_ok-others.others.items;
       backs = c.share-main.result.1.items;
       task = c.in_ok-others.ensures.task ∙ ap (λ (w : Worker). w.task) c.new-main.ensures.0;
+      drawn = c.in_ok-others.ensures.drawn ∙ ap (λ (w : Worker). (view w.desk).draws) c.new-main.ensures.0;
       count = c.in_ok-others.ensures.count.1;
       all = c.in_ok-others.ensures.crew.all;
       sane = last.sane;
