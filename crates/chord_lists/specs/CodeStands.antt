@@ -150,6 +150,10 @@ pub record WentAt (p : Program) (tasks : List Task) (at : ℕ) (after : List Ent
   pub top : (t : Task) × (slice_get tasks at ≡ Some t) × ((view_of t).top ≡ Some entry.body)
   pub is : turn ≡ turn_of entry.what
 
+-- all tasks but that of this place are what they were
+abbrev pub KeepsOthers : List Task → List Task → ℕ → Type 0
+KeepsOthers old new at = (i : ℕ) → (at == i) ≡ false → slice_get new i ≡ slice_get old i
+
 -- the task of this place had a turn, by which its next ask became the entry of this number, and no other task has changed
 pub record HasTurnedAt (code : Parts) (limits : Limits) (old new : List Task) (at n : ℕ) : Type 0 where
   pub before : Task

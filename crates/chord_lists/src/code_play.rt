@@ -81,7 +81,7 @@ impl<'a> Playable for CodePlay<'a> {
     ghost use Rattle.std.specs.Prelude.{◌≡◌, ◌≢◌, ◌<◌, ◌++◌, length, reverse, slice_get, take, Some, None, IfOk, OnOk};
     ghost use Rattle.chord_base.specs.Bodies.{served_among};
     ghost use Rattle.chord_code.specs.Meaning.{code_program, method_is_sync};
-    ghost use Rattle.chord_lists.specs.CodeStands.{StandsAfter, StoodOrAlone, HasTurnedIfAny, IsCut, home, over_after, topped_by};
+    ghost use Rattle.chord_lists.specs.CodeStands.{StandsAfter, StoodOrAlone, KeepsOthers, HasTurnedIfAny, IsCut, home, over_after, topped_by};
     ghost use Rattle.chord_lists.specs.Engine.{MayGoOn, Went, MayBegin, Began};
 
     type Bodies = CodeBodies;
@@ -129,6 +129,7 @@ impl<'a> Playable for CodePlay<'a> {
         ensures over { OnOk result (IsCut bodies.old.over.items bodies.new.over.items) }
         ensures kept { OnOk result (served_among (method_is_sync self.now.code.now object.class) methods.now members.old ≢ None → bodies.new.over.items ≡ bodies.old.over.items) }
         ensures reuse { OnOk result (StoodOrAlone bodies.old.tasks.items bodies.new.tasks.items (served_among (method_is_sync self.now.code.now object.class) methods.now members.old)) }
+        ensures others { OnOk result (KeepsOthers bodies.old.tasks.items bodies.new.tasks.items (home bodies.new.homes.items number)) }
     {
         let served = served_by(self.code, object.class, methods, members.items());
         begin_body(
