@@ -8,11 +8,11 @@ use Rattle.chord_code.specs.Meaning.{code_program}
 use Rattle.chord_task.specs.Standing.{view_of, IsTaskOf, MayResume}
 use Rattle.chord_lists.specs.Engine.{fired}
 use Rattle.chord_lists.specs.CodeStands.{sent_values, topped_by}
-use Rattle.chord_lists.proofs.Spots.{one_some}
+use Rattle.chord_lists.proofs.Spots.{one_some, before_end}
 use Rattle.chord_lists.proofs.CodeFiring.{firing_sent, may_begin, fired_alone, topped_first}
 use Rattle.chord_lists.proofs.CodeSteps.{listed_one}
 use Rattle.std.proofs.lemmas.Bool.{eqb-false}
-use Rattle.chord_lists.proofs.Spots.{before_end}
+use Rattle.chord_task.specs.declared.task.Task.{Task}
 use Rattle.chord_lists.proofs.code_bodies.begin_alone.Goals as goal
 
 pub place_after-at-requires : goal.place_after-at-requires
