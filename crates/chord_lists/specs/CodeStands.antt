@@ -229,6 +229,6 @@ Replayed p before after e = (h : List Entry) → IsRunOfLength p e.number h → 
 abbrev pub IsOwnEntry : Entry → Type 0
 IsOwnEntry e = IsOwn e.what
 
--- the entry is the first of a body
-abbrev pub IsFirst : What → Type 0
-IsFirst w = IsOwn w → ⊥
+-- an entry of this kind begins a body
+abbrev pub BeginsABody : What → Type 0
+BeginsABody w = IsOwn w → ⊥

@@ -26,7 +26,7 @@ impl<'a> CodePlay<'a> {
     ghost use Rattle.std.specs.Prelude.{◌≡◌, ◌<◌, ◌++◌, ◌∷◌, [], length, reverse, slice_get, Some, IfOk, OnOk};
     ghost use Rattle.chord_base.specs.Story.{IsOwn};
     ghost use Rattle.chord_code.specs.Meaning.{code_program};
-    ghost use Rattle.chord_lists.specs.CodeStands.{StandsAfter, MayReplay, Replayed, HasTurnedAt, IsCut, IsFirst, KeepsOthers, home, topped_by, with_over};
+    ghost use Rattle.chord_lists.specs.CodeStands.{StandsAfter, MayReplay, Replayed, HasTurnedAt, IsCut, BeginsABody, KeepsOthers, home, topped_by, with_over};
 
     /// The methods of a chord of the class, in header order.
     fn methods(&self, class: u16, chord: u16) -> &[u8]
@@ -51,9 +51,9 @@ impl<'a> CodePlay<'a> {
         ensures homed { OnOk result (IsOwn entry.now.what → bodies.new.homes.items ≡ bodies.old.homes.items ++ home bodies.old.homes.items entry.now.body ∷ []) }
         ensures over { OnOk result (IsOwn entry.now.what → reverse bodies.new.over.items ≡ with_over bodies.new.tasks.items (home bodies.old.homes.items entry.now.body) (reverse bodies.old.over.items)) }
         ensures turned { OnOk result (IsOwn entry.now.what → HasTurnedAt self.now.code.now self.now.limits.now bodies.old.tasks.items bodies.new.tasks.items (home bodies.old.homes.items entry.now.body) entry.now.number) }
-        ensures topped { OnOk result (IsFirst entry.now.what → reverse bodies.new.ready.items ≡ topped_by (home bodies.new.homes.items entry.now.number) (reverse bodies.old.ready.items)) }
-        ensures left { OnOk result (IsFirst entry.now.what → IsCut bodies.old.over.items bodies.new.over.items) }
-        ensures others { OnOk result (IsFirst entry.now.what → KeepsOthers bodies.old.tasks.items bodies.new.tasks.items (home bodies.new.homes.items entry.now.number)) }
+        ensures topped { OnOk result (BeginsABody entry.now.what → reverse bodies.new.ready.items ≡ topped_by (home bodies.new.homes.items entry.now.number) (reverse bodies.old.ready.items)) }
+        ensures left { OnOk result (BeginsABody entry.now.what → IsCut bodies.old.over.items bodies.new.over.items) }
+        ensures others { OnOk result (BeginsABody entry.now.what → KeepsOthers bodies.old.tasks.items bodies.new.tasks.items (home bodies.new.homes.items entry.now.number)) }
         ensures tasks { OnOk result (IsOwn entry.now.what → length bodies.new.tasks.items ≡ length bodies.old.tasks.items) }
     {
         match &entry.what {
