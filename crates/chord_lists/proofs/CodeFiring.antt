@@ -217,6 +217,12 @@ pub topped_first : (at : ℕ) (list : List ℕ) → take 1 (topped_by at list) �
 topped_first at [] = refl
 topped_first at (i ∷ list) = elim (either (i == at)) [ inl y ↦ rw y (ap (λ z. z ∷ []) (eqb-true i at y)) | inr o ↦ rw o refl ]
 
+-- the task of the newest entry is that which was put on top
+pub home_topped : (homes homes' ready ready' : List ℕ) (at n : ℕ) → length homes ≡ n → ready' ≡ topped_by at ready → homes' ≡ homes ++ take 1 ready' → home homes' n ≡ at
+home_topped homes homes' ready ready' at n long top is =
+    let here : homes' ≡ homes ++ at ∷ [] = is ∙ ap (λ z. homes ++ z) (ap (λ (z : List ℕ). take 1 z) top ∙ topped_first at ready) in
+    ap (λ z. home z n) here ∙ ap home_in (subst (λ k. slice_get (homes ++ at ∷ []) k ≡ Some at) long (end_at homes at))
+
 -- the place that was put on top is that of the newest entry's task
 pub topped_home : (homes homes' ready ready' : List ℕ) (at n : ℕ) → length homes ≡ n → ready' ≡ topped_by at ready → homes' ≡ homes ++ take 1 ready' → ready' ≡ topped_by (home homes' n) ready
 topped_home homes homes' ready ready' at n long top is =

@@ -1,5 +1,5 @@
 -- What the bodies of a run of a code are after a history: its entries in order, and tasks, each of which made some of them.
-use Rattle.std.specs.Prelude.{is_none, ◌≡◌, ℕ, ◌+◌, ◌≤◌, ◌⊎◌, ◌==◌, List, [], ◌∷◌, ◌++◌, reverse, length, set, Bool, true, false, Option, Some, None, slice_get, if◌then◌else◌}
+use Rattle.std.specs.Prelude.{⊥, is_none, ◌≡◌, ℕ, ◌+◌, ◌≤◌, ◌⊎◌, ◌==◌, List, [], ◌∷◌, ◌++◌, reverse, length, set, Bool, true, false, Option, Some, None, slice_get, if◌then◌else◌}
 use Rattle.chord_base.specs.declared.event.Entry.{Entry}
 use Rattle.chord_base.specs.declared.event.Limits.{Limits}
 use Rattle.chord_base.specs.declared.event.What.{What}
@@ -150,6 +150,10 @@ pub record WentAt (p : Program) (tasks : List Task) (at : ℕ) (after : List Ent
   pub top : (t : Task) × (slice_get tasks at ≡ Some t) × ((view_of t).top ≡ Some entry.body)
   pub is : turn ≡ turn_of entry.what
 
+-- all tasks but that of this place are what they were
+abbrev pub KeepsOthers : List Task → List Task → ℕ → Type 0
+KeepsOthers old new at = (i : ℕ) → (at == i) ≡ false → slice_get new i ≡ slice_get old i
+
 -- the task of this place had a turn, by which its next ask became the entry of this number, and no other task has changed
 pub record HasTurnedAt (code : Parts) (limits : Limits) (old new : List Task) (at n : ℕ) : Type 0 where
   pub before : Task
@@ -224,3 +228,7 @@ Replayed p before after e = (h : List Entry) → IsRunOfLength p e.number h → 
 -- the entry is the next ask of a body
 abbrev pub IsOwnEntry : Entry → Type 0
 IsOwnEntry e = IsOwn e.what
+
+-- an entry of this kind begins a body
+abbrev pub BeginsABody : What → Type 0
+BeginsABody w = IsOwn w → ⊥

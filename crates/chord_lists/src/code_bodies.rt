@@ -9,7 +9,7 @@ ghost use Rattle.chord_base.specs.Bodies.{served_among};
 ghost use Rattle.chord_code.specs.Meaning.{code_program, method_is_sync};
 ghost use Rattle.chord_lists.specs.Engine.{main_begun, IsRunOfLength, MayGoOn, Went, MayBegin, Began};
 ghost use Rattle.chord_task.specs.Standing.{view_of};
-ghost use Rattle.chord_lists.specs.CodeStands.{StandsAfter, StandsWith, IsCut, over_after, AreReady, AreOver, StoodOrAlone, ready_at, over_at, with_over, is_on_top, topped_by, turn_to, WentAt, HasTurnedAt, HasTurnedIfAny, IsMessageAt, AreMessagesAt, message_at, sent_arguments, sent_values, home, Serves, FitsAt, MayReplay, Replayed};
+ghost use Rattle.chord_lists.specs.CodeStands.{StandsAfter, StandsWith, IsCut, over_after, AreReady, AreOver, StoodOrAlone, ready_at, over_at, with_over, is_on_top, topped_by, turn_to, WentAt, HasTurnedAt, HasTurnedIfAny, KeepsOthers, IsMessageAt, AreMessagesAt, message_at, sent_arguments, sent_values, home, Serves, FitsAt, MayReplay, Replayed};
 
 use crate::engine::Turn;
 use chord_base::event::{Entry, Limits, What};
@@ -173,7 +173,9 @@ fn make(
 /// The bodies of a run in which `Main` has just begun.
 pub fn begin_run(alloc: Global, code: &Code, limits: &Limits) -> Result<CodeBodies, AllocError>
     requires sound { IsSound (code_program code.now limits.now) }
-    ensures { IfOk result (λ bodies. StandsAfter code.now limits.now bodies main_begun) }
+    ensures stands { IfOk result (λ bodies. StandsAfter code.now limits.now bodies main_begun) }
+    ensures ready { IfOk result (λ bodies. bodies.ready.items ≡ 0 ∷ []) }
+    ensures over { IfOk result (λ bodies. bodies.over.items ≡ []) }
 {
     let events = limits.events as usize;
     // meant, and said by no clause: where there is room for all that the run may come to, nothing is moved later
@@ -336,6 +338,7 @@ fn begin_at(
     ensures top { OnOk result (bodies.new.homes.items ≡ bodies.old.homes.items ++ take 1 (reverse bodies.new.ready.items)) }
     ensures over { OnOk result (bodies.new.over.items ≡ bodies.old.over.items) }
     ensures tasks { OnOk result (length bodies.new.tasks.items ≡ length bodies.old.tasks.items) }
+    ensures others { OnOk result (KeepsOthers bodies.old.tasks.items bodies.new.tasks.items at) }
 {
     let _parts = code.parts();
     let mut values = Values::none();
@@ -387,6 +390,7 @@ fn begin_alone(
     ensures top { OnOk result (bodies.new.homes.items ≡ bodies.old.homes.items ++ take 1 (reverse bodies.new.ready.items)) }
     ensures over { OnOk result (bodies.new.over.items ≡ bodies.old.over.items) }
     ensures tasks { OnOk result (length bodies.new.tasks.items ≡ length bodies.old.tasks.items + 1) }
+    ensures others { OnOk result (KeepsOthers bodies.old.tasks.items bodies.new.tasks.items (length bodies.old.tasks.items)) }
 {
     let at = place_after(&bodies.tasks);
     let _parts = code.parts();
@@ -432,6 +436,7 @@ pub fn begin_body(
     ensures over { OnOk result (IsCut bodies.old.over.items bodies.new.over.items) }
     ensures kept { OnOk result (served ≢ None → bodies.new.over.items ≡ bodies.old.over.items) }
     ensures reuse { OnOk result (StoodOrAlone bodies.old.tasks.items bodies.new.tasks.items served) }
+    ensures others { OnOk result (KeepsOthers bodies.old.tasks.items bodies.new.tasks.items (home bodies.new.homes.items number)) }
 {
     match served {
         Some(call) => {

@@ -26,7 +26,7 @@ impl<'a> CodePlay<'a> {
     ghost use Rattle.std.specs.Prelude.{◌≡◌, ◌<◌, ◌++◌, ◌∷◌, [], length, reverse, slice_get, Some, IfOk, OnOk};
     ghost use Rattle.chord_base.specs.Story.{IsOwn};
     ghost use Rattle.chord_code.specs.Meaning.{code_program};
-    ghost use Rattle.chord_lists.specs.CodeStands.{StandsAfter, MayReplay, Replayed, HasTurnedAt, home, with_over};
+    ghost use Rattle.chord_lists.specs.CodeStands.{StandsAfter, MayReplay, Replayed, HasTurnedAt, IsCut, BeginsABody, KeepsOthers, home, topped_by, with_over};
 
     /// The methods of a chord of the class, in header order.
     fn methods(&self, class: u16, chord: u16) -> &[u8]
@@ -51,6 +51,9 @@ impl<'a> CodePlay<'a> {
         ensures homed { OnOk result (IsOwn entry.now.what → bodies.new.homes.items ≡ bodies.old.homes.items ++ home bodies.old.homes.items entry.now.body ∷ []) }
         ensures over { OnOk result (IsOwn entry.now.what → reverse bodies.new.over.items ≡ with_over bodies.new.tasks.items (home bodies.old.homes.items entry.now.body) (reverse bodies.old.over.items)) }
         ensures turned { OnOk result (IsOwn entry.now.what → HasTurnedAt self.now.code.now self.now.limits.now bodies.old.tasks.items bodies.new.tasks.items (home bodies.old.homes.items entry.now.body) entry.now.number) }
+        ensures topped { OnOk result (BeginsABody entry.now.what → reverse bodies.new.ready.items ≡ topped_by (home bodies.new.homes.items entry.now.number) (reverse bodies.old.ready.items)) }
+        ensures left { OnOk result (BeginsABody entry.now.what → IsCut bodies.old.over.items bodies.new.over.items) }
+        ensures others { OnOk result (BeginsABody entry.now.what → KeepsOthers bodies.old.tasks.items bodies.new.tasks.items (home bodies.new.homes.items entry.now.number)) }
         ensures tasks { OnOk result (IsOwn entry.now.what → length bodies.new.tasks.items ≡ length bodies.old.tasks.items) }
     {
         match &entry.what {
@@ -81,7 +84,7 @@ impl<'a> Playable for CodePlay<'a> {
     ghost use Rattle.std.specs.Prelude.{◌≡◌, ◌≢◌, ◌<◌, ◌++◌, length, reverse, slice_get, take, Some, None, IfOk, OnOk};
     ghost use Rattle.chord_base.specs.Bodies.{served_among};
     ghost use Rattle.chord_code.specs.Meaning.{code_program, method_is_sync};
-    ghost use Rattle.chord_lists.specs.CodeStands.{StandsAfter, StoodOrAlone, HasTurnedIfAny, IsCut, home, over_after, topped_by};
+    ghost use Rattle.chord_lists.specs.CodeStands.{StandsAfter, StoodOrAlone, KeepsOthers, HasTurnedIfAny, IsCut, home, over_after, topped_by};
     ghost use Rattle.chord_lists.specs.Engine.{MayGoOn, Went, MayBegin, Began};
 
     type Bodies = CodeBodies;
@@ -129,6 +132,7 @@ impl<'a> Playable for CodePlay<'a> {
         ensures over { OnOk result (IsCut bodies.old.over.items bodies.new.over.items) }
         ensures kept { OnOk result (served_among (method_is_sync self.now.code.now object.class) methods.now members.old ≢ None → bodies.new.over.items ≡ bodies.old.over.items) }
         ensures reuse { OnOk result (StoodOrAlone bodies.old.tasks.items bodies.new.tasks.items (served_among (method_is_sync self.now.code.now object.class) methods.now members.old)) }
+        ensures others { OnOk result (KeepsOthers bodies.old.tasks.items bodies.new.tasks.items (home bodies.new.homes.items number)) }
     {
         let served = served_by(self.code, object.class, methods, members.items());
         begin_body(

@@ -8,9 +8,11 @@ use Rattle.chord_code.specs.Meaning.{code_program}
 use Rattle.chord_task.specs.Standing.{view_of, IsTaskOf, MayResume}
 use Rattle.chord_lists.specs.Engine.{fired}
 use Rattle.chord_lists.specs.CodeStands.{sent_values, topped_by}
-use Rattle.chord_lists.proofs.Spots.{one_some}
+use Rattle.chord_lists.proofs.Spots.{one_some, before_end}
 use Rattle.chord_lists.proofs.CodeFiring.{firing_sent, may_begin, fired_alone, topped_first}
 use Rattle.chord_lists.proofs.CodeSteps.{listed_one}
+use Rattle.std.proofs.lemmas.Bool.{eqb-false}
+use Rattle.chord_task.specs.declared.task.Task.{Task}
 use Rattle.chord_lists.proofs.code_bodies.begin_alone.Goals as goal
 
 pub place_after-at-requires : goal.place_after-at-requires
@@ -84,3 +86,7 @@ returns-clause-top c =
 
 pub returns-clause-tasks : goal.returns-clause-tasks
 returns-clause-tasks c = ap length c.in_ok-push.ensures.items ∙ length-append c.args.bodies.now.tasks.items (c.resume_with.new.self ∷ [])
+
+pub returns-clause-others : goal.returns-clause-others
+returns-clause-others c =
+    λ i o. ap (λ (ts : List Task). slice_get ts i) c.in_ok-push.ensures.items ∙ before_end c.args.bodies.now.tasks.items c.resume_with.new.self i (eqb-false (length c.args.bodies.now.tasks.items) i o)

@@ -1,5 +1,7 @@
 use Rattle.std.proofs.Common.{◌≡◌, ◌∙◌, ◌++◌, ◌∷◌, [], refl, sym, ap, subst, arith, length, take, reverse, Some, List, ℕ}
 use Rattle.std.specs.Prelude.{slice_get}
+use Rattle.std.proofs.lemmas.Bool.{eqb-false}
+use Rattle.chord_code.proofs.Places.{set_other}
 use Rattle.std.proofs.lemmas.Option.{get_or_from_slice_get, slice_get_within}
 use Rattle.chord_base.specs.declared.value.Value.{Value}
 use Rattle.chord_task.specs.declared.task.Task.{Task}
@@ -93,3 +95,6 @@ as_home-requires c =
     let l = slice_get_within c.args.bodies.now.tasks.items c.args.at k.task k.there in
     let few = m.3.few in
     omega (arith, l, few, m.2.so_long, c.requires.room)
+
+pub returns-clause-others : goal.returns-clause-others
+returns-clause-others c = λ i o. set_other c.args.bodies.now.tasks.items c.args.at i c.resume_with.new.self (eqb-false c.args.at i o)

@@ -1,6 +1,6 @@
-use Rattle.std.proofs.Common.{◌∙◌, ap, length, reverse, Some}
-use Rattle.chord_lists.specs.CodeStands.{home}
-use Rattle.chord_lists.proofs.CodeFiring.{caller, call_served, topped_home}
+use Rattle.std.proofs.Common.{◌∙◌, ap, sym, subst, length, reverse, Some}
+use Rattle.chord_lists.specs.CodeStands.{home, KeepsOthers}
+use Rattle.chord_lists.proofs.CodeFiring.{caller, call_served, topped_home, home_topped}
 use Rattle.chord_lists.proofs.CodeOver.{stands_over, stands_later}
 use Rattle.chord_lists.proofs.OverTasks.{none_over, none_went, last_went, all_went}
 use Rattle.chord_lists.proofs.code_bodies.begin_body.Goals as goal
@@ -99,3 +99,30 @@ returns-in_ok-begin_at-in-Some-next_over-clause-kept c = λ some. absurd (some c
 
 pub returns-in_ok-begin_alone-in-None-next_over-clause-kept : goal.returns-in_ok-begin_alone-in-None-next_over-clause-kept
 returns-in_ok-begin_alone-in-None-next_over-clause-kept c = λ some. absurd (some c.in-None.is)
+
+pub returns-in_ok-begin_at-in-Some-clause-others : goal.returns-in_ok-begin_at-in-Some-clause-others
+returns-in_ok-begin_at-in-Some-clause-others c =
+    let m = c.requires.may in
+    let e = c.in_ok-begin_at-in-Some.ensures in
+    subst (λ z. KeepsOthers c.args.bodies.now.tasks.items c.begin_at.new.bodies.tasks.items z)
+    (sym (home_topped c.args.bodies.now.homes.items c.begin_at.new.bodies.homes.items (reverse c.args.bodies.now.ready.items) (reverse c.begin_at.new.bodies.ready.items) c.home_of-at.result c.args.number
+    (m.3.homed ∙ m.2.so_long) e.ready e.top))
+    e.others
+
+pub returns-in_ok-begin_at-in-Some-next_over-clause-others : goal.returns-in_ok-begin_at-in-Some-next_over-clause-others
+returns-in_ok-begin_at-in-Some-next_over-clause-others c =
+    let m = c.requires.may in
+    let e = c.in_ok-begin_at-in-Some-next_over.ensures in
+    subst (λ z. KeepsOthers c.args.bodies.now.tasks.items c.begin_at-in-Some-next_over.new.bodies.tasks.items z)
+    (sym (home_topped c.args.bodies.now.homes.items c.begin_at-in-Some-next_over.new.bodies.homes.items (reverse c.args.bodies.now.ready.items) (reverse c.begin_at-in-Some-next_over.new.bodies.ready.items) c.in-Some-next_over.at c.args.number
+    (m.3.homed ∙ m.2.so_long) e.ready e.top))
+    e.others
+
+pub returns-in_ok-begin_alone-in-None-next_over-clause-others : goal.returns-in_ok-begin_alone-in-None-next_over-clause-others
+returns-in_ok-begin_alone-in-None-next_over-clause-others c =
+    let m = c.requires.may in
+    let e = c.in_ok-begin_alone-in-None-next_over.ensures in
+    subst (λ z. KeepsOthers c.args.bodies.now.tasks.items c.begin_alone.new.bodies.tasks.items z)
+    (sym (home_topped c.args.bodies.now.homes.items c.begin_alone.new.bodies.homes.items (reverse c.args.bodies.now.ready.items) (reverse c.begin_alone.new.bodies.ready.items) (length c.args.bodies.now.tasks.items) c.args.number
+    (m.3.homed ∙ m.2.so_long) e.ready e.top))
+    e.others

@@ -35,3 +35,12 @@ returns-in_ok-begin-in-Fired-clause-turned c = λ own. absurd (subst IsOwn c.in-
 
 pub returns-in_ok-begin-in-Fired-clause-tasks : goal.returns-in_ok-begin-in-Fired-clause-tasks
 returns-in_ok-begin-in-Fired-clause-tasks c = λ own. absurd (subst IsOwn c.in-Fired.is own)
+
+pub returns-in_ok-begin-in-Fired-clause-topped : goal.returns-in_ok-begin-in-Fired-clause-topped
+returns-in_ok-begin-in-Fired-clause-topped c = λ first. c.in_ok-begin-in-Fired.ensures.ready
+
+pub returns-in_ok-begin-in-Fired-clause-left : goal.returns-in_ok-begin-in-Fired-clause-left
+returns-in_ok-begin-in-Fired-clause-left c = λ first. c.in_ok-begin-in-Fired.ensures.over
+
+pub returns-in_ok-begin-in-Fired-clause-others : goal.returns-in_ok-begin-in-Fired-clause-others
+returns-in_ok-begin-in-Fired-clause-others c = λ first. c.in_ok-begin-in-Fired.ensures.others
