@@ -114,8 +114,8 @@ fn play_all<'a, R: Threads + Wait + Sync, G: Gate + Sync>(
 /// drew the entries of the journal, in its order, and each entry that the desk that closed it kept stands there; it has given its memory back, and no parcel is
 /// left. That desk is the first one, and each other worker had a desk that was split from it. `gate.started` is called for each body by the worker that
 /// begins to play it; that the gate knows of `Main` is a clause, that this gate knows of each other one is said by the private call
-/// that plays all, of what the workers do together, before which no hired one has drawn
-/// an entry and the first one that of `Main` alone (`HavePlayedTogether`), and of what the first one does alone (`HasLeftOffAlone`),
+/// that plays all, of what the workers do together, before which no hired one has drawn an entry and the first one that of `Main`
+/// alone (`HavePlayedTogether`), and of what the first one does alone (`HasLeftOffAlone`),
 /// and that it is told once is tested. It is not promised that the call returns.
 ///
 /// # Errors
