@@ -1,5 +1,5 @@
 -- What the bodies of a run of a code are after a history: its entries in order, and tasks, each of which made some of them.
-use Rattle.std.specs.Prelude.{⊥, is_none, ◌≡◌, ℕ, ◌+◌, ◌≤◌, ◌⊎◌, ◌==◌, List, [], ◌∷◌, ◌++◌, reverse, length, set, Bool, true, false, Option, Some, None, slice_get, if◌then◌else◌}
+use Rattle.std.specs.Prelude.{is_none, ◌≡◌, ℕ, ◌+◌, ◌≤◌, ◌⊎◌, ◌==◌, List, [], ◌∷◌, ◌++◌, reverse, length, set, Bool, true, false, Option, Some, None, slice_get, if◌then◌else◌}
 use Rattle.chord_base.specs.declared.event.Entry.{Entry}
 use Rattle.chord_base.specs.declared.event.Limits.{Limits}
 use Rattle.chord_base.specs.declared.event.What.{What}

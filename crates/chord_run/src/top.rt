@@ -274,6 +274,7 @@ fn answer_code<R: Threads + Wait + Sync, K: Sink, G: Gate + Sync>(
     ensures answered { ReportsNoMemory result (K.taken sink.old) (K.taken sink.new)
         ⊎ ReportsCode request.now code.now result (K.taken sink.old) (K.taken sink.new) }
     ensures no_words_refused { result.status ≡ 2 → ⊥ }
+    ensures sure { result.status ≡ 7 → MakesRun request.now.mode }
     ensures fault { result.status ≡ 5 → Rose (K.faults sink.old) (K.faults sink.new) }
     ensures told { (result.status ≡ 5) ⊎ (K.faults sink.new ≡ K.faults sink.old) }
 {
@@ -289,6 +290,7 @@ fn answer_code<R: Threads + Wait + Sync, K: Sink, G: Gate + Sync>(
 fn accept<K: Sink>(sink: &mut K) -> Report
     ensures table { (result.journal ≡ None) × (result.table ≡ None) }
     ensures written { ReportsText (codes "ok\n") result (K.taken sink.old) (K.taken sink.new) }
+    ensures sure { result.status ≡ 7 → ⊥ }
     ensures fault { result.status ≡ 5 → Rose (K.faults sink.old) (K.faults sink.new) }
     ensures told { (result.status ≡ 5) ⊎ (K.faults sink.new ≡ K.faults sink.old) }
 {
@@ -302,6 +304,7 @@ fn accept<K: Sink>(sink: &mut K) -> Report
 fn list<K: Sink>(code: &Code, sink: &mut K) -> Report
     ensures table { (result.journal ≡ None) × (result.table ≡ None) }
     ensures written { ReportsText (listing_text code.now) result (K.taken sink.old) (K.taken sink.new) }
+    ensures sure { result.status ≡ 7 → ⊥ }
     ensures fault { result.status ≡ 5 → Rose (K.faults sink.old) (K.faults sink.new) }
     ensures told { (result.status ≡ 5) ⊎ (K.faults sink.new ≡ K.faults sink.old) }
 {
