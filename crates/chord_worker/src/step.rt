@@ -122,6 +122,7 @@ impl Worker {
         ensures drew { DrewAStep task (view self.old.desk).draws (view self.new.desk).draws }
         ensures says { OnOk result ((a : Ask) → asked.old ≡ Some a → SaysFirst (what_of_ask a) (view self.old.desk).draws (view self.new.desk).draws) }
         ensures short { OnErr result (IsOutOfMemory space.now self.new) }
+        ensures lists { self.new.taken ≡ self.old.taken }
     {
         let mut task = task;
         match draw_own(
@@ -176,6 +177,7 @@ impl Worker {
         ensures bare { OnOk result (OwnsNothing asked.new) }
         ensures drew { DrewAStep task (view self.old.desk).draws (view self.new.desk).draws }
         ensures short { OnErr result (IsOutOfMemory space.now self.new) }
+        ensures lists { self.new.taken ≡ self.old.taken }
     {
         match asked {
             None => unreachable!(),
@@ -243,6 +245,7 @@ impl Worker {
         ensures stock { OnOk result (HasStockAfter (program_of space.now) (view self.old.desk).draws self.old.spare self.new) }
         ensures drew { (t : TheTask) → self.old.task ≡ Some t → DrewAStep t (view self.old.desk).draws (view self.new.desk).draws }
         ensures short { OnErr result (IsOutOfMemory space.now self.new) }
+        ensures lists { self.new.taken ≡ self.old.taken }
     {
         match self.task.take() {
             None => unreachable!(),
