@@ -81,7 +81,8 @@ impl Worker {
         }
     }
 
-    /// A worker with a desk of its own, which this one lends: it has nothing to play and nothing in stock, and has drawn nothing.
+    /// A worker with a desk of its own, which this one lends: it has nothing to play and nothing in stock, has drawn nothing and
+    /// taken nobody in.
     pub fn hired(&mut self, alloc: Global, space: &Space<Parcel>) -> Worker
         requires rest { IsAtRest space.now self.old }
         requires first { ((view self.old.desk).first ≡ true) × ((view self.old.desk).splits < 65535) }

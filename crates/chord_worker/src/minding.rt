@@ -75,7 +75,8 @@ impl Worker {
     }
 
     /// Fires the chord with these members, unless one is gone. Whether there is nothing left to mind; where something is, the desk alone has
-    /// changed. There is room for the firing's entry.
+    /// changed. There is room for the firing's entry. A worker that draws the firing while it has no task has one then: it plays the
+    /// body itself, since no other worker's processor has read any of it.
     fn try_to_fire<G: Gate>(
         &mut self,
         space: &Space<Parcel>,

@@ -58,6 +58,9 @@ returns-clause-lists g c = c.mind_on.ensures.lists ∙ c.attend.ensures.lists
 pub returns-then-not-reserve_draw-clause-played : goal.returns-then-not-reserve_draw-clause-played
 returns-then-not-reserve_draw-clause-played g c = λ none still. ap (λ (w : Worker). (view w.desk).draws) c.drop_task.ensures.frame
 
+pub returns-then-attend-clause-played : goal.returns-then-attend-clause-played
+returns-then-attend-clause-played g c = c.attend.ensures.played
+
 pub returns-clause-played : goal.returns-clause-played
 returns-clause-played g c = λ none still.
     let same = c.attend.ensures.same c.if-attend.false in

@@ -106,7 +106,7 @@ no_post knows before x w f (inr plays) none still = let z : Some plays.on_top.0 
 pub returns-in-Ok-clause-played : goal.returns-in-Ok-clause-played
 returns-in-Ok-clause-played g c = λ none still.
     let f = c.in-Ok.ensures.fired in
-    absurd (no_post g.G.Gate.knows _ _ _ _
+    absurd (no_post g.G.Gate.knows (view c.args.self.now.desk).kept c.args.self.now.task c.begin_fired.new.self _
     (c.begin_fired.ensures.taken (view c.args.self.now.desk) f.0 f.1 (found_fired _ _ _ _ _ c.requires.minds _ _ _ _ c.requires.found.1 _ c.fire_to.ensures.desk _ _ f.2))
     none still)
 
