@@ -223,8 +223,7 @@ impl Worker {
     /// no step goes on with such a body: beside at most one firing it draws entries of the body on top alone. What is in stock stays there, and
     /// after a message something is there, unless a firing that serves no call was drawn last; with an ask that is neither a message nor an
     /// end nothing comes there. Want of memory is an `Err`: the task is gone, and each entry that was drawn stands in the lists, since there is
-    /// room for it before it is drawn. Nothing is moved to the lists of those
-    /// that it took in.
+    /// room for it before it is drawn. Nothing is moved to the lists of those that it took in.
     pub fn step<R: Wait, G: Gate>(
         &mut self,
         rt: &R,
