@@ -62,7 +62,7 @@ impl Worker {
         requires code { (space_code space.now ≡ code.now) × (space_limits space.now ≡ limits.now) }
         requires sound { IsSound (program_of space.now) }
         requires desk { IsDeskOf space.now desk × (view desk ≡ newcomer_first) }
-        ensures { IfOk result (λ w. IsAtRest space.now w × IsSameRole (view desk) (view w.desk) × ((view w.desk).drawn ≡ true) × ((view w.desk).spent ≡ true → w.task ≡ None) × PlaysMain w × (w.spare ≡ None)) }
+        ensures { IfOk result (λ w. IsAtRest space.now w × IsSameRole (view desk) (view w.desk) × ((view w.desk).drawn ≡ true) × ((view w.desk).spent ≡ true → w.task ≡ None) × PlaysMain w × (w.spare ≡ None) × (w.taken.items ≡ [])) }
     {
         let mut desk = desk;
         let mut draws = Vec::new(alloc);
@@ -81,7 +81,8 @@ impl Worker {
         }
     }
 
-    /// A worker with a desk of its own, which this one lends: it has nothing to play and nothing in stock, and has drawn nothing.
+    /// A worker with a desk of its own, which this one lends: it has nothing to play and nothing in stock, has drawn nothing and
+    /// taken nobody in.
     pub fn hired(&mut self, alloc: Global, space: &Space<Parcel>) -> Worker
         requires rest { IsAtRest space.now self.old }
         requires first { ((view self.old.desk).first ≡ true) × ((view self.old.desk).splits < 65535) }
@@ -90,6 +91,7 @@ impl Worker {
         ensures other { IsAtRest space.now result × (result.task ≡ None) × ((view result.desk).spent ≡ false) }
         ensures undrawn { (view result.desk).draws ≡ [] }
         ensures empty { result.spare ≡ None }
+        ensures nothing_taken { result.taken.items ≡ [] }
     {
         Worker {
             desk: space.split(&mut self.desk),

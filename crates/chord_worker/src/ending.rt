@@ -64,6 +64,7 @@ impl Worker {
         ensures bare { OnOk result (OwnsNothing asked.new) }
         ensures drew { (b : ℕ) → (view_of task).top ≡ Some b → DrewEnd b (view self.old.desk).draws (view self.new.desk).draws }
         ensures short { OnErr result (IsOutOfMemory space.now self.new) }
+        ensures lists { self.new.taken ≡ self.old.taken }
     {
         let mut task = task;
         let end = Ask::End(End::Gives(Value::Unit));

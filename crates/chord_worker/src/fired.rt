@@ -257,6 +257,7 @@ impl Worker {
         ensures undrawn { (view self.new.desk).draws ≡ (view self.old.desk).draws }
         ensures spare { self.new.spare ≡ self.old.spare }
         ensures taken { (v : View) → HasBegun space.now self.old v number task → HasTakenOn G.knows v.kept self.old.task self.new number }
+        ensures lists { self.new.taken ≡ self.old.taken }
     {
         if self.task.is_none() {
             gate.started(number);
@@ -295,6 +296,7 @@ impl Worker {
         ensures kept { (v : View) (qs : List TheParcel) → HasUnpacked unpacked.old.arguments.one unpacked.old.arguments.more unpacked.old.caller qs → HasFired space.now self.old v drawn.object drawn.chord members.now drawn.number qs → (self.new.spare ≡ self.old.spare) ⊎ ServesNone space.now drawn.object drawn.chord members.now qs }
         ensures none { (unpacked.new.arguments.one.first ≡ []) × (unpacked.new.arguments.more ≡ None) × (unpacked.new.caller ≡ None) }
         ensures taken { (v : View) (qs : List TheParcel) → HasUnpacked unpacked.old.arguments.one unpacked.old.arguments.more unpacked.old.caller qs → HasFired space.now self.old v drawn.object drawn.chord members.now drawn.number qs → HasTakenOn G.knows v.kept self.old.task self.new drawn.number }
+        ensures lists { self.new.taken ≡ self.old.taken }
     {
         chords_are_right(code);
         entries_are_within(code);

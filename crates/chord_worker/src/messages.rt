@@ -142,6 +142,7 @@ impl Worker {
         ensures drew { DrewAStep task (view self.old.desk).draws (view self.new.desk).draws }
         ensures says { OnOk result (SaysFirst (Sent object method held.first) (view self.old.desk).draws (view self.new.desk).draws) }
         ensures short { OnErr result (IsOutOfMemory space.now self.new) }
+        ensures lists { self.new.taken ≡ self.old.taken }
     {
         let mut task = task;
         match draw_own(
@@ -219,6 +220,7 @@ impl Worker {
         ensures drew { DrewAStep task (view self.old.desk).draws (view self.new.desk).draws }
         ensures says { OnOk result (SaysFirst (Called object method held.first) (view self.old.desk).draws (view self.new.desk).draws) }
         ensures short { OnErr result (IsOutOfMemory space.now self.new) }
+        ensures lists { self.new.taken ≡ self.old.taken }
     {
         let mut task = task;
         match draw_own(

@@ -75,7 +75,8 @@ impl Worker {
     }
 
     /// Fires the chord with these members, unless one is gone. Whether there is nothing left to mind; where something is, the desk alone has
-    /// changed. There is room for the firing's entry.
+    /// changed. There is room for the firing's entry. A worker that draws the firing while it has no task has one then: it plays the
+    /// body itself, since no other worker's processor has read any of it.
     fn try_to_fire<G: Gate>(
         &mut self,
         space: &Space<Parcel>,
@@ -105,6 +106,8 @@ impl Worker {
         ensures drew { DrewFiring (view self.old.desk).draws (view self.new.desk).draws }
         ensures undrawn { result ≡ false → (view self.new.desk).draws ≡ (view self.old.desk).draws }
         ensures lost { result ≡ false → (i : ℕ) × IsLost space.now.events (view self.old.desk) (view self.new.desk) members.now nexts.now i }
+        ensures lists { self.new.taken ≡ self.old.taken }
+        ensures played { self.old.task ≡ None → self.new.task ≡ None → (view self.new.desk).draws ≡ (view self.old.desk).draws }
     {
         let object = message.object;
         let mut unpacked = Unpacked::nothing();
@@ -166,6 +169,8 @@ impl Worker {
         ensures drew { DrewFiring (view self.old.desk).draws (view self.new.desk).draws }
         ensures undrawn { result ≡ false → (view self.new.desk).draws ≡ (view self.old.desk).draws }
         ensures hindered { result ≡ false → IsHindered (program_of space.now) space.now.events (view self.old.desk) (view self.new.desk) message.number message.object message.method }
+        ensures lists { self.new.taken ≡ self.old.taken }
+        ensures played { self.old.task ≡ None → self.new.task ≡ None → (view self.new.desk).draws ≡ (view self.old.desk).draws }
     {
         let mut members = Members::new();
         let mut nexts = Nexts::new();
@@ -212,6 +217,8 @@ impl Worker {
         ensures drew { DrewFiring (view self.old.desk).draws (view self.new.desk).draws }
         ensures roomy { vec_len self.old.draws < vec_capacity self.old.draws → IsOk result }
         ensures short { OnErr result (IsOutOfMemory space.now self.new) }
+        ensures lists { self.new.taken ≡ self.old.taken }
+        ensures played { self.old.task ≡ None → self.new.task ≡ None → (view self.new.desk).draws ≡ (view self.old.desk).draws }
     {
         if !reserve_draw(&mut self.draws) {
             self.drop_task();
@@ -247,6 +254,8 @@ impl Worker {
         ensures minded { WasMinded G.knows (view self.old.desk).kept self.old.task self.new message.number }
         ensures stock { StillStocked (program_of space.now) (view self.old.desk).draws self.old.spare self.new }
         ensures drew { DrewFiring (view self.old.desk).draws (view self.new.desk).draws }
+        ensures lists { self.new.taken ≡ self.old.taken }
+        ensures played { self.old.task ≡ None → self.new.task ≡ None → (view self.new.desk).draws ≡ (view self.old.desk).draws }
     {
         let backoff = Backoff::new();
         for _ in rt.forever() {

@@ -1,6 +1,7 @@
 //! A task comes to its next ask, which becomes an entry of the run.
-ghost use Rattle.std.specs.Prelude.{◌≡◌, ◌≢◌, ◌<◌, false, Some, None, IfOk, OnOk, OnErr, IsOk, MatchResult, IfSome, IfNone, vec_len};
+ghost use Rattle.std.specs.Prelude.{◌≡◌, ◌≢◌, ◌<◌, false, Some, None, IfOk, OnOk, OnErr, IsOk, MatchResult, IfSome, IfNone, vec_len, vec_capacity};
 ghost use Rattle.chord_base.specs.declared.event.End.{End as AnEnd};
+ghost use Rattle.chord_base.specs.Room.{HasGrown};
 ghost use Rattle.chord_base.specs.Story.{IsSound};
 ghost use Rattle.chord_space.specs.Desks.{view, space_code, space_limits, program_of, IsDeskOf, IsSameDesk, MayDraw};
 ghost use Rattle.chord_task.specs.declared.task.Task.{Task as ATask};
@@ -121,6 +122,7 @@ pub(crate) fn draw_own(
     ensures same { IfOk result (λ x. IfNone x (draws.new.items ≡ draws.old.items)) }
     ensures bare { OnOk result (OwnsNothing asked.new) }
     ensures undrawn { OnErr result ((view desk.new ≡ view desk.old) × (draws.new.items ≡ draws.old.items)) }
+    ensures grown { OnOk result (HasGrown (vec_len draws.old) (vec_capacity draws.old) (vec_capacity draws.new)) }
 {
     let body = top_number(&task.value);
     let mut second = None;

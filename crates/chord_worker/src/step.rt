@@ -122,6 +122,7 @@ impl Worker {
         ensures drew { DrewAStep task (view self.old.desk).draws (view self.new.desk).draws }
         ensures says { OnOk result ((a : Ask) → asked.old ≡ Some a → SaysFirst (what_of_ask a) (view self.old.desk).draws (view self.new.desk).draws) }
         ensures short { OnErr result (IsOutOfMemory space.now self.new) }
+        ensures lists { self.new.taken ≡ self.old.taken }
     {
         let mut task = task;
         match draw_own(
@@ -176,6 +177,7 @@ impl Worker {
         ensures bare { OnOk result (OwnsNothing asked.new) }
         ensures drew { DrewAStep task (view self.old.desk).draws (view self.new.desk).draws }
         ensures short { OnErr result (IsOutOfMemory space.now self.new) }
+        ensures lists { self.new.taken ≡ self.old.taken }
     {
         match asked {
             None => unreachable!(),
@@ -221,7 +223,7 @@ impl Worker {
     /// no step goes on with such a body: beside at most one firing it draws entries of the body on top alone. What is in stock stays there, and
     /// after a message something is there, unless a firing that serves no call was drawn last; with an ask that is neither a message nor an
     /// end nothing comes there. Want of memory is an `Err`: the task is gone, and each entry that was drawn stands in the lists, since there is
-    /// room for it before it is drawn.
+    /// room for it before it is drawn. Nothing is moved to the lists of those that it took in.
     pub fn step<R: Wait, G: Gate>(
         &mut self,
         rt: &R,
@@ -243,6 +245,7 @@ impl Worker {
         ensures stock { OnOk result (HasStockAfter (program_of space.now) (view self.old.desk).draws self.old.spare self.new) }
         ensures drew { (t : TheTask) → self.old.task ≡ Some t → DrewAStep t (view self.old.desk).draws (view self.new.desk).draws }
         ensures short { OnErr result (IsOutOfMemory space.now self.new) }
+        ensures lists { self.new.taken ≡ self.old.taken }
     {
         match self.task.take() {
             None => unreachable!(),

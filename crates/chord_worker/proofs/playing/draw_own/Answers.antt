@@ -1,4 +1,5 @@
-use Rattle.std.proofs.Common.{inl, ◌∙◌}
+use Rattle.std.proofs.Common.{vec_len, vec_capacity, sym, ◌∙◌, subst, inl}
+use Rattle.chord_base.specs.Room.{HasGrown}
 use Rattle.chord_space.specs.Desks.{view, space_code, space_limits}
 use Rattle.chord_task.proofs.Turning.{adds_from}
 use Rattle.chord_vm.specs.Frames.{what_of_ask}
@@ -65,3 +66,6 @@ returns-in-Ok-clause-frames c =
     let room = rw (c.deref_mut.ensures.value ∙ c.task.view_is) at c.in_ok-make_room.ensures.room in
     let frames = rw (c.deref_mut-in-Ok.ensures.value) at c.settle.ensures.frames in
     frames c.args.task.now room
+
+pub returns-in-Ok-clause-grown : goal.returns-in-Ok-clause-grown
+returns-in-Ok-clause-grown c = subst (HasGrown (vec_len c.args.draws.now) (vec_capacity c.args.draws.now)) (sym c.settle.ensures.capacity) c.in_ok-make_room.ensures.grown

@@ -163,3 +163,30 @@ returns-in-Left-clause-stock g c = λ _. inl refl
 
 pub returns-in-Taken-clause-stock : goal.returns-in-Taken-clause-stock
 returns-in-Taken-clause-stock g c = λ _. inl refl
+
+pub returns-in-Match-clause-played : goal.returns-in-Match-clause-played
+returns-in-Match-clause-played g c = λ none still.
+    c.try_to_fire.ensures.played none still
+    ∙ looks_draws (view c.args.self.now.desk) (view c.find.new.desk) (looks_on _ _ _ (cell_looks (view c.args.self.now.desk) c.args.message.number (record { cell = a_cell.Pending; next = c.in-Match.ensures.finding.next })) c.in-Match.ensures.finding.sought.grows.only)
+
+pub returns-in-Busy-clause-played : goal.returns-in-Busy-clause-played
+returns-in-Busy-clause-played g c = λ none still.
+    let v = view c.args.self.now.desk in
+    let m = c.args.message.number in
+    looks_draws v (view c.find.new.desk)
+    (⊎_elim
+    (λ t. subst (IsOnlyLooks v) (sym t.1.1) (cell_looks v m (record { cell = a_cell.Claimed; next = t.1.0 })))
+    (λ b. looks_on _ _ _ (cell_looks v m (record { cell = a_cell.Pending; next = b.next })) b.sought.grows.only)
+    c.in-Busy.ensures.finding.one)
+
+pub returns-in-Left-clause-played : goal.returns-in-Left-clause-played
+returns-in-Left-clause-played g c = λ none still.
+    let v = view c.args.self.now.desk in
+    let m = c.args.message.number in
+    ⊎_elim
+    (λ t. ap (λ (z : View). z.draws) t.2)
+    (λ t. ap (λ (z : View). z.draws) t.2 ∙ looks_draws v t.0 (looks_on _ _ _ (cell_looks v m (record { cell = a_cell.Pending; next = t.1.next })) t.1.sought.grows.only))
+    c.in-Left.ensures.finding
+
+pub returns-in-Taken-clause-played : goal.returns-in-Taken-clause-played
+returns-in-Taken-clause-played g c = λ none still. ap (λ (z : View). z.draws) c.in-Taken.ensures.finding.1

@@ -148,3 +148,12 @@ returns-in_ok-mind-in-Some-clause-stock g c =
 
 pub returns-in-None-clause-stock : goal.returns-in-None-clause-stock
 returns-in-None-clause-stock g c = λ _. inl c.lay_down.ensures.same.1
+
+pub returns-in_ok-mind-in-Some-clause-lists : goal.returns-in_ok-mind-in-Some-clause-lists
+returns-in_ok-mind-in-Some-clause-lists g c = c.retire.ensures.lists.1 ∙ c.mind.ensures.lists
+
+pub returns-in_err-mind-in-Some-clause-lists : goal.returns-in_err-mind-in-Some-clause-lists
+returns-in_err-mind-in-Some-clause-lists g c = c.mind.ensures.lists
+
+pub returns-in-None-clause-lists : goal.returns-in-None-clause-lists
+returns-in-None-clause-lists g c = c.lay_down.ensures.lists.1

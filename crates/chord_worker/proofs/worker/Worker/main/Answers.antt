@@ -33,4 +33,5 @@ returns c =
         drawn = ap (λ (z : View). z.draws) c.in-Ok.ensures.drawn.1 ∙ ap (λ (v : View). entry n 0 Begun ∷ v.draws) c.requires.desk.1 ∙ ap (λ (k : ℕ). entry k 0 Begun ∷ []) first;
       },
       refl,
+      search rules,
     )

@@ -48,3 +48,20 @@ pub returns-then-not-reserve_draw-clause-roomy : goal.returns-then-not-reserve_d
 returns-then-not-reserve_draw-clause-roomy g c = λ room.
     let z : false ≡ true = sym c.if-not-reserve_draw.true ∙ (c.reserve_draw.ensures.stays room).1 in
     absurd (cc)
+
+pub returns-then-not-reserve_draw-clause-lists : goal.returns-then-not-reserve_draw-clause-lists
+returns-then-not-reserve_draw-clause-lists g c = ap (λ (w : Worker). w.taken) c.drop_task.ensures.frame
+
+pub returns-clause-lists : goal.returns-clause-lists
+returns-clause-lists g c = c.mind_on.ensures.lists ∙ c.attend.ensures.lists
+
+pub returns-then-not-reserve_draw-clause-played : goal.returns-then-not-reserve_draw-clause-played
+returns-then-not-reserve_draw-clause-played g c = λ none still. ap (λ (w : Worker). (view w.desk).draws) c.drop_task.ensures.frame
+
+pub returns-then-attend-clause-played : goal.returns-then-attend-clause-played
+returns-then-attend-clause-played g c = c.attend.ensures.played
+
+pub returns-clause-played : goal.returns-clause-played
+returns-clause-played g c = λ none still.
+    let same = c.attend.ensures.same c.if-attend.false in
+    c.mind_on.ensures.played (same.0 ∙ none) still ∙ c.attend.ensures.undrawn c.if-attend.false

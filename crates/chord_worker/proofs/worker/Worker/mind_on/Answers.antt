@@ -18,6 +18,7 @@ loop-preserved g c =
       subst (λ (w : Worker). vec_len w.draws < vec_capacity w.draws) (sym frame) c.loop.invariant.5,
       ap (λ (w : Worker). w.spare) frame ∙ c.loop.invariant.6,
       (same.0 ∙ c.loop.invariant.7.0, same.1 ∙ c.loop.invariant.7.1),
+      c.attend.ensures.lists ∙ c.loop.invariant.8,
     )
 
 pub returns-then-attend-clause-drew : goal.returns-then-attend-clause-drew
@@ -26,3 +27,9 @@ returns-then-attend-clause-drew g c = drew_since (view c.args.self.now.desk).dra
 pub returns-then-attend-clause-stock : goal.returns-then-attend-clause-stock
 returns-then-attend-clause-stock g c =
     stocked_alike (program_of c.args.space.now) (view c.args.self.now.desk).draws (view c.loop.self.desk).draws c.args.self.now.spare c.loop.self.spare c.attend.new.self (λ _. c.loop.invariant.6) c.attend.ensures.stock c.loop.invariant.4
+
+pub returns-then-attend-clause-lists : goal.returns-then-attend-clause-lists
+returns-then-attend-clause-lists g c = c.attend.ensures.lists ∙ c.loop.invariant.8
+
+pub returns-then-attend-clause-played : goal.returns-then-attend-clause-played
+returns-then-attend-clause-played g c = λ none still. c.attend.ensures.played (c.loop.invariant.7.0 ∙ none) still ∙ c.loop.invariant.4

@@ -165,3 +165,6 @@ pub returns-in-None-clause-says : goal.returns-in-None-clause-says
 returns-in-None-clause-says g c =
     nothing_first (Called c.args.object c.args.method c.args.held.first) (view c.args.self.now.desk).draws (view c.lay_down.new.self.desk).draws
     (none_drew (view c.args.self.now.desk) (view c.draw_own.new.desk) _ c.in-None.is c.in_ok-number.ensures.told (view c.lay_down.new.self.desk).draws (ap (λ (x : Desk Parcel). (view x).draws) c.lay_down.ensures.same.0))
+
+pub returns-in-None-clause-lists : goal.returns-in-None-clause-lists
+returns-in-None-clause-lists g c = c.lay_down.ensures.lists.1

@@ -163,3 +163,9 @@ pub returns-in-None-clause-says : goal.returns-in-None-clause-says
 returns-in-None-clause-says c = λ a e.
     nothing_first (what_of_ask a) (view c.args.self.now.desk).draws (view c.lay_down.new.self.desk).draws
     (none_drew (view c.args.self.now.desk) (view c.draw_own.new.desk) _ c.in-None.is c.in_ok-draw_own.ensures.told (view c.lay_down.new.self.desk).draws (ap (λ (x : Desk Parcel). (view x).draws) c.lay_down.ensures.same.0))
+
+pub returns-in-Some-clause-lists : goal.returns-in-Some-clause-lists
+returns-in-Some-clause-lists c = c.settle.ensures.lists.1
+
+pub returns-in-None-clause-lists : goal.returns-in-None-clause-lists
+returns-in-None-clause-lists c = c.lay_down.ensures.lists.1

@@ -1,4 +1,4 @@
-use Rattle.std.proofs.Common.{◌≡◌, true, refl, sym, ap, ◌∙◌, subst, inl, inr, ⊎_elim, Vec, Global}
+use Rattle.std.proofs.Common.{◌≡◌, ℕ, true, List, Option, Some, None, refl, sym, ap, ◌∙◌, subst, inl, inr, ⊎_elim, Vec, Global}
 use Rattle.chord_base.specs.declared.event.Entry.{Entry}
 use Rattle.chord_match.specs.declared.claiming.Missed.TheVariants as a_miss
 use Rattle.chord_match.specs.Fires.{IsMissedBy}
@@ -6,12 +6,14 @@ use Rattle.chord_rule.specs.declared.view.View.{View}
 use Rattle.chord_space.specs.declared.space.Desk.{Desk}
 use Rattle.chord_space.specs.Desks.{view, program_of, IsSameDesk}
 use Rattle.chord_task.specs.declared.parcel.Opened.{Opened as Parcel}
+use Rattle.chord_task.specs.declared.task.Task.{Task}
 use Rattle.chord_task.proofs.Gathering.{none_gathered}
 use Rattle.chord_worker.proofs.Attending.{found_fired, still_minds, refused, lost_looks}
 use Rattle.chord_worker.proofs.Drawn.{fired_drew}
 use Rattle.chord_worker.proofs.Stepping.{message_older, taken_minded}
 use Rattle.chord_worker.proofs.Stocked.{fired_last}
-use Rattle.chord_worker.specs.Stepping.{DrewFiring, DrewFiringLast}
+use Rattle.chord_worker.specs.declared.worker.Worker.{Worker}
+use Rattle.chord_worker.specs.Stepping.{DrewFiring, DrewFiringLast, HasTakenOn}
 use Rattle.chord_worker.proofs.worker.Worker.try_to_fire.Goals as goal
 
 pub fire_to-requires-clause-empty : goal.fire_to-requires-clause-empty
@@ -92,3 +94,28 @@ returns-in-Err-Lost-clause-stock g c = λ _. inl refl
 
 pub returns-in-Err-Spent-clause-stock : goal.returns-in-Err-Spent-clause-stock
 returns-in-Err-Spent-clause-stock g c = λ _. inl c.give_up.ensures.same.1
+
+pub returns-in-Err-Spent-clause-lists : goal.returns-in-Err-Spent-clause-lists
+returns-in-Err-Spent-clause-lists g c = c.give_up.ensures.lists.1
+
+-- who had no task and took a firing on plays its body
+no_post : (knows : ℕ → Type 0) (before : List Entry) (x : Option Task) (w : Worker) (f : ℕ) → HasTakenOn knows before x w f → x ≡ None → w.task ≡ None → ⊥
+no_post knows before x w f (inl posted) none still = posted.0 none
+no_post knows before x w f (inr plays) none still = let z : Some plays.on_top.0 ≡ None = sym plays.on_top.1 ∙ still in absurd (cc)
+
+pub returns-in-Ok-clause-played : goal.returns-in-Ok-clause-played
+returns-in-Ok-clause-played g c = λ none still.
+    let f = c.in-Ok.ensures.fired in
+    absurd (no_post g.G.Gate.knows (view c.args.self.now.desk).kept c.args.self.now.task c.begin_fired.new.self _
+    (c.begin_fired.ensures.taken (view c.args.self.now.desk) f.0 f.1 (found_fired _ _ _ _ _ c.requires.minds _ _ _ _ c.requires.found.1 _ c.fire_to.ensures.desk _ _ f.2))
+    none still)
+
+pub returns-in-Err-Lost-clause-played : goal.returns-in-Err-Lost-clause-played
+returns-in-Err-Lost-clause-played g c = λ none still.
+    let lost = rw c.in-Err-Lost.field-0-is at c.in-Err-Lost.ensures.missed in
+    ap (λ (z : View). z.draws) lost.same
+
+pub returns-in-Err-Spent-clause-played : goal.returns-in-Err-Spent-clause-played
+returns-in-Err-Spent-clause-played g c = λ none still.
+    let turned : IsMissedBy c.args.space.now.events (view c.args.self.now.desk) (view c.fire_to.new.desk) c.args.members.now c.args.nexts.now a_miss.Spent = rw c.in-Err-Spent.field-0-is at c.in-Err-Spent.ensures.missed in
+    ap (λ (x : Desk Parcel). (view x).draws) c.give_up.ensures.same.0 ∙ ap (λ (z : View). z.draws) turned.same
