@@ -367,7 +367,7 @@ pub record IsBack (s : Space Parcel) (main : Worker) (others : List Player) : Ty
   pub lent : (view main.desk).lent ≡ length others
   pub all : HaveAllPlayed s others
 
--- a player with the task of this worker, which has drawn what this one has, knows of no number and has looked for none, and as many others that it hired as make so many workers had rounds and left off, none of them failed, and what their desks drew is all that the desk of the last worker drew
+-- a player with the task of this worker, which has drawn what this one has, stands at the first number, knows of none and has not looked in vain, and as many others that it hired as make so many workers had rounds and left off, none of them failed, and what their desks drew is all that the desk of the last worker drew
 pub record HavePlayedTogether (knows : ℕ → Type 0) (s : Space Parcel) (workers : ℕ) (main last : Worker) : Type 0 where
   pub before : Player
   pub after : Player
