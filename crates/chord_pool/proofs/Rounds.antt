@@ -1,7 +1,7 @@
 -- Rounds of a player, one after the other, and turns of the first worker alone.
 use Rattle.std.proofs.Common.{◌≡◌, ℕ, List, [], ◌∷◌, ◌++◌, true, refl, sym, ap, ◌∙◌, subst, ⊎_elim, inl, inr}
 use Rattle.chord_roll.specs.declared.card.Card.{Card}
-use Rattle.chord_roll.specs.Cards.{last_read, reads, times_asked, tells, IsSameCard}
+use Rattle.chord_roll.specs.Cards.{last_read, reads, times_asked, stops, tells, IsSameCard}
 use Rattle.chord_space.specs.declared.space.Space.{Space}
 use Rattle.chord_space.specs.Desks.{view}
 use Rattle.chord_task.specs.declared.parcel.Opened.{Opened as Parcel}
@@ -24,11 +24,11 @@ counts_on c d e a b = record { same = b.same ∙ a.same; throughout = b.througho
 
 -- nothing happens between two rounds, twice
 between_on : (x y z : Player) → IsBetweenRounds x y → IsBetweenRounds y z → IsBetweenRounds x z
-between_on x y z a b = record { worker = b.worker ∙ a.worker; stands = stands_on x y z a.stands b.stands; counted = counts_on x.card y.card z.card a.counted b.counted; asks = b.asks ∙ a.asks }
+between_on x y z a b = record { worker = b.worker ∙ a.worker; stands = stands_on x y z a.stands b.stands; counted = counts_on x.card y.card z.card a.counted b.counted; asks = b.asks ∙ a.asks; told = b.told ∙ a.told }
 
 -- nothing happens to a player that stays as it is
 pub between_none : (x : Player) → IsBetweenRounds x x
-between_none x = record { worker = refl; stands = record { place = refl; known = refl; misses = refl }; counted = record { same = refl; throughout = refl }; asks = refl }
+between_none x = record { worker = refl; stands = record { place = refl; known = refl; misses = refl }; counted = record { same = refl; throughout = refl }; asks = refl; told = refl }
 
 -- nor does it behind rounds
 rounds_stay : (knows : ℕ → Type 0) (s : Space Parcel) (x y z : Player) (ys : List Player) → AreRounds knows s x ys y → IsBetweenRounds y z → AreRounds knows s x ys z
@@ -70,8 +70,8 @@ plays_on_between x y z on same failed card =
     ((card.0 ∙ on.0.0, card.1 ∙ on.0.1), λ sane. subst (λ (w : Worker). IsSameRole (view x.worker.desk) (view w.desk)) (sym same.worker) (on.1 (sym failed ∙ sane)))
 
 -- rounds, and then more of them, after which the player left off and went
-pub left_off_later : (knows : ℕ → Type 0) (s : Space Parcel) (x y z w : Player) → HadRounds knows s x y → HasLeftOff knows s y z → w.worker ≡ z.worker → w.failed ≡ z.failed → began w.card ≡ began z.card → tells w.card ≡ tells z.card → last_read w.card ≡ last_read z.card → reads w.card ≡ reads z.card → times_asked w.card ≡ times_asked z.card → HasLeftOff knows s x w
-left_off_later knows s x y z w had later same_worker same_end as_often same_told same_read read_as_often asked_as_often = record {
+pub left_off_later : (knows : ℕ → Type 0) (s : Space Parcel) (x y z w : Player) → HadRounds knows s x y → HasLeftOff knows s y z → w.worker ≡ z.worker → w.failed ≡ z.failed → began w.card ≡ began z.card → tells w.card ≡ tells z.card → last_read w.card ≡ last_read z.card → reads w.card ≡ reads z.card → times_asked w.card ≡ times_asked z.card → stops w.card ≡ stops z.card → HasLeftOff knows s x w
+left_off_later knows s x y z w had later same_worker same_end as_often same_told same_read read_as_often asked_as_often same_stop = record {
   last = later.last;
   had = more_rounds knows s x y later.last had later.had;
   asked = asked_as_often ∙ later.asked;
@@ -88,6 +88,7 @@ left_off_later knows s x y z w had later same_worker same_end as_often same_told
       (λ spent. inl (subst (λ (v : Worker). (view v.desk).spent ≡ true) (sym same_worker) spent.0, same_worker ∙ spent.1))
       (λ far. inr (read_as_often ∙ far.0, same_read ∙ far.1, far.2, far.3, far.4, subst (λ (v : Worker). LookedAgain s far.2 far.3 (view v.desk)) (sym same_worker) far.5))
       (later.gone (sym same_end ∙ sane));
+  untold = λ sane. same_stop ∙ later.untold (sym same_end ∙ sane);
 }
 
 -- a player that goes has played what it had played

@@ -226,7 +226,7 @@ pub record HasFoundNone (s : Space Parcel) (x y : Player) : Type 0 where
 abbrev pub HasLooked : (ℕ → Type 0) → Space Parcel → Player → Player → Type 0
 HasLooked knows s x y = HasFound knows s x y ⊎ HasFoundNone s x y
 
--- a player that asked once whether all are to stop, and was told by nobody, went on with its task and counted all the while, without a read of how many do, drew entries of the body on top and at most one firing, plays no other task but a body of which the gate knows, and stands where it stood, or it read once how many are at work and looked for a firing, and if it did not count it began to once for each that it read ready
+-- a player that asked once whether all are to stop, was told by nobody and told nobody, went on with its task and counted all the while, without a read of how many do, drew entries of the body on top and at most one firing, plays no other task but a body of which the gate knows, and stands where it stood, or it read once how many are at work and looked for a firing, and if it did not count it began to once for each that it read ready
 pub record HadARound (knows : ℕ → Type 0) (s : Space Parcel) (x y : Player) : Type 0 where
   pub asked : times_asked y.card ≡ times_asked x.card + 1
   pub told_nothing : stops x.card ≡ false
@@ -239,6 +239,7 @@ pub record HadARound (knows : ℕ → Type 0) (s : Space Parcel) (x y : Player) 
   pub read : x.worker.task ≡ None → reads y.card ≡ reads x.card + 1
   pub looked : x.worker.task ≡ None → HasLooked knows s x y
   pub began_so : x.worker.task ≡ None → BeganForEach (view x.worker.desk) (view y.worker.desk) x.card y.card
+  pub untold : stops y.card ≡ false
 
 -- it has the same card, and plays at the same desk unless it fails
 abbrev pub PlaysOn : Player → Player → Type 0
@@ -252,12 +253,13 @@ pub record IsOnTheWay (s : Space Parcel) (x y : Player) : Type 0 where
   pub counts_so : CountsIfItPlays y
   pub told_nothing : stops y.card ≡ false
 
--- between two rounds a player has the same worker, stands where it stood, counts as before, and does not ask whether all are to stop
+-- between two rounds a player has the same worker, stands where it stood, counts as before, does not ask whether all are to stop, and tells nobody so
 pub record IsBetweenRounds (x y : Player) : Type 0 where
   pub worker : y.worker ≡ x.worker
   pub stands : StandsStill x y
   pub counted : CountsAsBefore x.card y.card
   pub asks : times_asked y.card ≡ times_asked x.card
+  pub told : stops y.card ≡ stops x.card
 
 -- rounds lead from x to y, and these are the players after each of them, the newest first
 abbrev pub AreRounds : (ℕ → Type 0) → Space Parcel → Player → List Player → Player → Type 0
@@ -287,7 +289,7 @@ HasGone s x y =
     (((view y.worker.desk).spent ≡ true) × (y.worker ≡ x.worker))
     ⊎ ((reads y.card ≡ reads x.card + 1) × (last_read y.card ≡ Some 0) × (near : ℕ) × (v : View) × LookedInVain s x near v × LookedAgain s near v (view y.worker.desk))
 
--- the player had rounds and left off, after it asked once more whether all are to stop: it failed and had one step of its task at most, or it plays what it played after them, keeps what it kept and went; and it began to count no more often than it saw a firing to start
+-- the player had rounds and left off, after it asked once more whether all are to stop: it failed and had one step of its task at most, or it plays what it played after them, keeps what it kept and went, told by nobody to stop; and it began to count no more often than it saw a firing to start
 pub record HasLeftOff (knows : ℕ → Type 0) (s : Space Parcel) (x y : Player) : Type 0 where
   pub last : Player
   pub had : HadRounds knows s x last
@@ -296,6 +298,7 @@ pub record HasLeftOff (knows : ℕ → Type 0) (s : Space Parcel) (x y : Player)
   pub began_so : BeganToTheEnd last y
   pub short : HasFailed s last y
   pub gone : y.failed ≡ false → HasGone s last y
+  pub untold : y.failed ≡ false → stops y.card ≡ false
 
 -- each of these players, in this order, had rounds and left off
 abbrev pub HaveAllLeftOff : (ℕ → Type 0) → Space Parcel → List Player → List Player → Type 0
@@ -314,7 +317,7 @@ abbrev pub with_draws : List Entry → List Player → List Entry
 with_draws es [] = es
 with_draws es (x ∷ xs) = with_draws (together es (view x.worker.desk).draws) xs
 
--- a player that was hired may go on, has nothing to play yet, has drawn nothing and was not told that the limit is reached, does not count among those at work and has not read how many do: it knows of no number, and none of its looks found none
+-- a player that was hired may go on, has nothing to play yet, has drawn nothing and was not told that the limit is reached, does not count among those at work, has not read how many do and was told by nobody to stop: it knows of no number, and none of its looks found none
 pub record IsHired (s : Space Parcel) (x : Player) : Type 0 where
   pub may : MayPlay s x
   pub task : x.worker.task ≡ None
@@ -326,6 +329,7 @@ pub record IsHired (s : Space Parcel) (x : Player) : Type 0 where
   pub place : x.place ≡ 0
   pub known : x.known ≡ 0
   pub misses : x.misses ≡ 0
+  pub untold : stops x.card ≡ false
 
 -- each of these was hired
 abbrev pub AreHired : Space Parcel → List Player → Type 0
@@ -363,7 +367,7 @@ pub record IsBack (s : Space Parcel) (main : Worker) (others : List Player) : Ty
   pub lent : (view main.desk).lent ≡ length others
   pub all : HaveAllPlayed s others
 
--- a player with the task of this worker, which has drawn what this one has, and as many others that it hired as make so many workers had rounds and left off, none of them failed, and what their desks drew is all that the desk of the last worker drew
+-- a player with the task of this worker, which has drawn what this one has, stands at the first number, knows of none and has not looked in vain, and as many others that it hired as make so many workers had rounds and left off, none of them failed, and what their desks drew is all that the desk of the last worker drew
 pub record HavePlayedTogether (knows : ℕ → Type 0) (s : Space Parcel) (workers : ℕ) (main last : Worker) : Type 0 where
   pub before : Player
   pub after : Player
@@ -378,3 +382,4 @@ pub record HavePlayedTogether (knows : ℕ → Type 0) (s : Space Parcel) (worke
   pub off : HasLeftOff knows s before after
   pub all_off : HaveAllLeftOff knows s others backs
   pub draws : (view last.desk).draws ≡ with_draws (view after.worker.desk).draws backs
+  pub fresh : (before.place ≡ 0) × (before.known ≡ 0) × (before.misses ≡ 0)

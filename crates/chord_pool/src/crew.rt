@@ -20,7 +20,7 @@ fn hire_one(
 ) -> Result<(), AllocError>
     requires crew { IsCrew space.now main.old.worker others.old.items × ((view main.old.worker.desk).splits ≡ length others.old.items) × (length others.old.items < 65535) }
     requires cards { AreCards main.old.card others.old.items }
-    ensures same { main.new.failed ≡ main.old.failed }
+    ensures same { (main.new.failed ≡ main.old.failed) × (main.new.place ≡ main.old.place) × (main.new.known ≡ main.old.known) × (main.new.misses ≡ main.old.misses) }
     ensures crew { IfOk result (λ _. IsCrew space.now main.new.worker others.new.items × ((view main.new.worker.desk).splits ≡ length others.new.items) × (length others.new.items ≡ length others.old.items + 1)) }
     ensures cards { IfOk result (λ _. AreCards main.new.card others.new.items) }
     ensures task { IfOk result (λ _. main.new.worker.task ≡ main.old.worker.task) }
@@ -42,7 +42,7 @@ pub(crate) fn hire(
     requires crew { IsCrew space.now main.old.worker [] × ((view main.old.worker.desk).splits ≡ 0) }
     requires card { AreCards main.old.card [] }
     requires few { (1 ≤ workers) × (workers ≤ 64) }
-    ensures same { main.new.failed ≡ main.old.failed }
+    ensures same { (main.new.failed ≡ main.old.failed) × (main.new.place ≡ main.old.place) × (main.new.known ≡ main.old.known) × (main.new.misses ≡ main.old.misses) }
     ensures crew { IfOk result (λ others. IsCrew space.now main.new.worker others.items) }
     ensures cards { IfOk result (λ others. AreCards main.new.card others.items) }
     ensures count { IfOk result (λ others. ((view main.new.worker.desk).splits ≡ length others.items) × (length others.items + 1 ≡ workers)) }

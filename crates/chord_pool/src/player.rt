@@ -437,6 +437,7 @@ impl Player {
         ensures gone { result ≡ false → self.new.failed ≡ false → HasGone run.now.space.now self.old self.new }
         ensures asked { times_asked self.new.card ≡ times_asked self.old.card + 1 }
         ensures untold { result ≡ true → stops self.new.card ≡ false }
+        ensures unstopped { result ≡ false → self.new.failed ≡ false → stops self.new.card ≡ false }
     {
         if self.card.has_stopped() {
             self.failed = true;

@@ -83,7 +83,7 @@ ends_keeps slots id me inside s r _ at small = let w = counted_off me.0 in let x
 -- it reads how many count
 pub reads_keeps : (slots id : ℕ) (me : Holder) → Allows IsRoll slots id me 0 (λ n. n) (reads_count (step slots 0 0 0 none) me)
 reads_keeps slots id me s r _ at _ = let x : ℕ = get_or s.words 0 0 in let w = having_read x me.0 in let sum = at_work_set s.views id me.0 w at in let count = r.count in let own = at_work_at s.views id me.0 at in
-    (w, keeps, tt, placed s r x id me w at refl refl refl (omega arith), (refl, λ inside. let one : counted_as me.0.counts ≡ 1 = ap counted_as inside in omega arith))
+    (w, keeps, tt, placed s r x id me w at refl refl refl (omega arith), (refl, (λ inside. let one : counted_as me.0.counts ≡ 1 = ap counted_as inside in omega arith), refl))
 
 -- after a step on the second word that leaves 1 there, the rule holds where one has told all
 all_stop : (s : Moment) → IsRoll s → (id : ℕ) (me : Holder) (w : Turnout) → get_elem? s.views id ≡ some me.0 → w.hired ≡ me.0.hired → w.counts ≡ me.0.counts → OneTells (set s.views id w) → IsRoll (stepped s 1 1 id me.1 w keeps)

@@ -72,9 +72,9 @@ count_begins st m n m' = m' ≡ (counting m.0, m.1)
 abbrev pub count_ends : Step (Unit {0}) → Holder → ℕ → Holder → Type 0
 count_ends st m n m' = m' ≡ (counted_off m.0, m.1)
 
--- the number is read, which is not 0 where the reader itself counts
+-- the number is read, of the first word, and is not 0 where the reader itself counts
 abbrev pub reads_count : Step (Unit {0}) → Holder → ℕ → Holder → Type 0
-reads_count st m n m' = (m' ≡ (having_read n m.0, m.1)) × (m.0.counts ≡ true → 0 < n)
+reads_count st m n m' = (m' ≡ (having_read n m.0, m.1)) × (m.0.counts ≡ true → 0 < n) × (st.word ≡ 0)
 
 -- all are told to stop
 abbrev pub tells_all : Step (Unit {0}) → Holder → ℕ → Holder → Type 0

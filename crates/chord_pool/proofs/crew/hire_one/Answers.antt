@@ -1,5 +1,5 @@
 use Rattle.std.proofs.Common.{◌≡◌, ◌+◌, List, length, None, subst, sym, ap, ◌∙◌, refl}
-use Rattle.chord_roll.specs.Cards.{counts, last_read, roll_of}
+use Rattle.chord_roll.specs.Cards.{counts, last_read, stops, roll_of}
 use Rattle.chord_rule.specs.declared.view.View.{View}
 use Rattle.chord_space.specs.Desks.{view}
 use Rattle.chord_worker.specs.declared.worker.Worker.{Worker}
@@ -24,9 +24,10 @@ returns c =
       place = made.3;
       known = made.4;
       misses = made.5;
+      untold = ap stops made.1 ∙ c.in_ok-card.ensures.other.3;
     } in
     record {
-      same = refl;
+      same = (refl, refl, refl, refl);
       crew = subst (λ (xs : List Player). IsCrew s after xs × ((view after.desk).splits ≡ length xs) × (length xs ≡ length c.args.others.now.items + 1)) (sym c.in_ok-push.ensures.items)
           (hired s c.args.main.now.worker after c.args.others.now.items one was.0 was.1 h.mine.0 h.mine.1 h.mine.2 new);
       cards = subst (λ (xs : List Player). AreCards c.hire.new.self xs) (sym c.in_ok-push.ensures.items)

@@ -6,7 +6,7 @@ use Rattle.chord_pool.proofs.Rounds.{no_rounds, more_rounds, rounds_and_between,
 use Rattle.chord_pool.proofs.player.work.Goals as goal
 
 pub loop-init : goal.loop-init
-loop-init g c = (search rules, search rules, search rules, search rules, search rules, search rules, no_rounds g.G.Gate.knows c.args.run.now.space.now c.args.player _ (record { worker = refl; stands = record { place = refl; known = refl; misses = refl }; counted = record { same = refl; throughout = refl }; asks = refl }))
+loop-init g c = (search rules, search rules, search rules, search rules, search rules, search rules, no_rounds g.G.Gate.knows c.args.run.now.space.now c.args.player _ (record { worker = refl; stands = record { place = refl; known = refl; misses = refl }; counted = record { same = refl; throughout = refl }; asks = refl; told = refl }))
 
 pub loop-preserved : goal.loop-preserved
 loop-preserved g c = let was = c.loop.invariant in let now = c.if-not-rounds.ensures in let between = c.give_way.ensures in (
@@ -24,7 +24,7 @@ loop-preserved g c = let was = c.loop.invariant in let now = c.if-not-rounds.ens
 pub returns-then-not-rounds-clause-off : goal.returns-then-not-rounds-clause-off
 returns-then-not-rounds-clause-off g c =
     left_off_later g.G.Gate.knows c.args.run.now.space.now c.args.player c.loop.player c.rounds.new.self c.leave.new.self c.loop.invariant.6 (c.if-not-rounds.ensures.off refl) c.leave.ensures.same.0 c.leave.ensures.same.1
-    (began_off c.rounds.new.self.card c.leave.new.self.card c.leave.ensures.counts c.leave.ensures.ended) c.leave.ensures.tells c.leave.ensures.card.0.1 c.leave.ensures.card.0.2 c.leave.ensures.card.0.3
+    (began_off c.rounds.new.self.card c.leave.new.self.card c.leave.ensures.counts c.leave.ensures.ended) c.leave.ensures.tells c.leave.ensures.card.0.1 c.leave.ensures.card.0.2 c.leave.ensures.card.0.3 c.leave.ensures.card.1
 
 pub returns-then-not-rounds-clause-played : goal.returns-then-not-rounds-clause-played
 returns-then-not-rounds-clause-played g c =

@@ -33,4 +33,5 @@ returns-clause-together g c =
       off = c.share-main.ensures.off.0;
       all_off = c.share-main.ensures.off.1;
       draws = last.drew;
+      fresh = (c.hire.ensures.same.1 ∙ c.new-main.ensures.3, c.hire.ensures.same.2 ∙ c.new-main.ensures.4, c.hire.ensures.same.3 ∙ c.new-main.ensures.5);
     }

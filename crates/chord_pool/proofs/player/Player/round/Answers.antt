@@ -23,6 +23,7 @@ returns-clause-went g c = λ more.
           let card = c.args.self.now.card in
           began_from before before after after card c.has_stopped.new.self c.idle.new.self.card c.idle.new.self.card refl refl c.has_stopped.ensures.same.2
           (began_as card c.has_stopped.new.self c.has_stopped.ensures.same.2 c.has_stopped.ensures.ended) refl c.idle.ensures.began;
+      untold = c.idle.ensures.heard ∙ (c.has_stopped.ensures.not_yet c.if-has_stopped.false).1;
     }
 
 pub returns-clause-last : goal.returns-clause-last
@@ -75,6 +76,18 @@ returns-then-is_spent-clause-gone g c = λ _ sane. let rest = c.requires.may c.r
 pub returns-then-has_stopped-clause-gone : goal.returns-then-has_stopped-clause-gone
 returns-then-has_stopped-clause-gone g c = λ _ sane. let z : true ≡ false = sane in absurd (cc)
 
+pub returns-clause-unstopped : goal.returns-clause-unstopped
+returns-clause-unstopped g c = λ _ _. c.idle.ensures.heard ∙ (c.has_stopped.ensures.not_yet c.if-has_stopped.false).1
+
+pub returns-then-has_task-clause-unstopped : goal.returns-then-has_task-clause-unstopped
+returns-then-has_task-clause-unstopped g c = λ e sane. let z : true ≡ false = sym (c.advance.ensures.failed e) ∙ sane in absurd (cc)
+
+pub returns-then-is_spent-clause-unstopped : goal.returns-then-is_spent-clause-unstopped
+returns-then-is_spent-clause-unstopped g c = λ _ _. (c.has_stopped.ensures.not_yet c.if-has_stopped.false).1
+
+pub returns-then-has_stopped-clause-unstopped : goal.returns-then-has_stopped-clause-unstopped
+returns-then-has_stopped-clause-unstopped g c = λ _ sane. let z : true ≡ false = sane in absurd (cc)
+
 pub returns-then-has_task-clause-went : goal.returns-then-has_task-clause-went
 returns-then-has_task-clause-went g c = λ more.
     let still = c.advance.ensures.stands more in
@@ -90,4 +103,5 @@ returns-then-has_task-clause-went g c = λ more.
       read = search rules;
       looked = search rules;
       began_so = search rules;
+      untold = c.advance.ensures.heard more ∙ (c.has_stopped.ensures.not_yet c.if-has_stopped.false).1;
     }

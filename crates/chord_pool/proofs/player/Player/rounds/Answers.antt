@@ -5,7 +5,7 @@ use Rattle.chord_pool.proofs.Rounds.{no_rounds, one_round_more}
 use Rattle.chord_pool.proofs.player.Player.rounds.Goals as goal
 
 pub loop-round-init : goal.loop-round-init
-loop-round-init g c = (search rules, search rules, search rules, search rules, search rules, search rules, no_rounds g.G.Gate.knows c.args.run.now.space.now c.args.self.now _ (record { worker = refl; stands = record { place = refl; known = refl; misses = refl }; counted = record { same = search rules; throughout = search rules }; asks = search rules }))
+loop-round-init g c = (search rules, search rules, search rules, search rules, search rules, search rules, no_rounds g.G.Gate.knows c.args.run.now.space.now c.args.self.now _ (record { worker = refl; stands = record { place = refl; known = refl; misses = refl }; counted = record { same = search rules; throughout = search rules }; asks = search rules; told = search rules }))
 
 pub loop-round-preserved : goal.loop-round-preserved
 loop-round-preserved g c =
@@ -26,7 +26,7 @@ pub returns-clause-had : goal.returns-clause-had
 returns-clause-had g c = λ _. c.loop-round.invariant.6
 
 pub returns-then-not-round-clause-off : goal.returns-then-not-round-clause-off
-returns-then-not-round-clause-off g c = λ _. record { last = c.loop-round.self; had = c.loop-round.invariant.6; asked = c.if-not-round.ensures.asked; off = c.if-not-round.ensures.off refl; began_so = c.if-not-round.ensures.last refl; short = c.if-not-round.ensures.short refl; gone = c.if-not-round.ensures.gone refl }
+returns-then-not-round-clause-off g c = λ _. record { last = c.loop-round.self; had = c.loop-round.invariant.6; asked = c.if-not-round.ensures.asked; off = c.if-not-round.ensures.off refl; began_so = c.if-not-round.ensures.last refl; short = c.if-not-round.ensures.short refl; gone = c.if-not-round.ensures.gone refl; untold = c.if-not-round.ensures.unstopped refl }
 
 pub returns-clause-untold : goal.returns-clause-untold
 returns-clause-untold g c = λ _. c.loop-round.invariant.4 (omega arith)
