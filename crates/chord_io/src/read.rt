@@ -52,6 +52,8 @@ pub fn read_all<S: Source>(alloc: Global, source: &mut S) -> Result<Vec<u8>, Rea
     ensures unfailed { IsErrOf result ReadFault.Failed ⊎ (S.faults source.new ≡ S.faults source.old) }
     ensures failed_within { IsErrOf result ReadFault.Failed → (given : List ℕ) × (length given ≤ 1048576)
         × Gave (S.left source.old) given (S.left source.new) }
+    ensures memory_within { IsErrOf result ReadFault.Memory → (given : List ℕ) × (0 < length given) × (length given ≤ 1048576)
+        × Gave (S.left source.old) given (S.left source.new) }
     ensures part { OnErr result ((given : List ℕ) × (length given ≤ 1048577) × Gave (S.left source.old) given (S.left source.new)) }
     ensures never_falls { S.faults source.old ≤ S.faults source.new }
 {
@@ -64,7 +66,8 @@ pub fn read_all<S: Source>(alloc: Global, source: &mut S) -> Result<Vec<u8>, Rea
 ///
 /// `Failed` exactly where a read failed before the source had given more than `most` bytes; the source's count of faults shows it.
 /// `TooLong` exactly where the source gave more than `most` bytes, which ends the reading at `most + 1`. `Memory` where
-/// the call ran out of memory. What was read then is lost. At most one read fails, and at most `most + 1` bytes are read.
+/// the call ran out of memory for bytes that it may have. What was read then is lost. At most one read fails, and at most `most + 1`
+/// bytes are read.
 pub fn read_up_to<S: Source>(alloc: Global, source: &mut S, most: u32) -> Result<Vec<u8>, ReadFault>
     ensures all { IfOk result (λ bytes. IfSome (S.left source.old) (λ left. bytes.items ≡ left)) }
     ensures gave { IfOk result (λ bytes. Gave (S.left source.old) bytes.items (S.left source.new)) }
@@ -76,19 +79,25 @@ pub fn read_up_to<S: Source>(alloc: Global, source: &mut S, most: u32) -> Result
     ensures unfailed { IsErrOf result ReadFault.Failed ⊎ (S.faults source.new ≡ S.faults source.old) }
     ensures failed_within { IsErrOf result ReadFault.Failed → (given : List ℕ) × (length given ≤ most)
         × Gave (S.left source.old) given (S.left source.new) }
+    ensures memory_within { IsErrOf result ReadFault.Memory → (given : List ℕ) × (0 < length given) × (length given ≤ most)
+        × Gave (S.left source.old) given (S.left source.new) }
     ensures part { OnErr result ((given : List ℕ) × (length given ≤ most + 1) × Gave (S.left source.old) given (S.left source.new)) }
     ensures never_falls { S.faults source.old ≤ S.faults source.new }
 {
     let most = most as usize;
     let mut bytes = Vec::new(alloc);
     let mut buffer = [0; PIECE_BYTES];
-    while bytes.len() <= most {
-        let room = PIECE_BYTES.min(most - bytes.len() + 1);
+    loop {
+        let left = most - bytes.len();
+        let room = PIECE_BYTES.min(left + 1);
         let count = source.read(&mut buffer[..room])?;
         if count == 0 {
             return Ok(bytes);
         }
+        // What is too long is thrown away, so no memory is asked for it.
+        if left < count {
+            return Err(ReadFault::TooLong);
+        }
         bytes.extend_from_slice(&buffer[..count])?;
     }
-    Err(ReadFault::TooLong)
 }

@@ -10,7 +10,7 @@ ghost use Rattle.chord_gen.specs.Listing.{listing_text};
 ghost use Rattle.chord_run.specs.Answers.{Answers, AnswersContents, AnswersSource, IsSilence, IsSilent};
 ghost use Rattle.chord_run.specs.Command as words;
 ghost use Rattle.chord_run.specs.Command.{AreAccepted, IsBounded, Requested, Requests, argument_bytes};
-ghost use Rattle.chord_run.specs.Due.{HasStatus, source_contents};
+ghost use Rattle.chord_run.specs.Due.{HasStatus, MakesRun, source_contents};
 ghost use Rattle.chord_run.specs.Load.{load_text};
 ghost use Rattle.chord_run.specs.Refusals.{PointsAt};
 ghost use Rattle.chord_run.specs.Reports.{ReportsCode, ReportsNoMemory, ReportsPlayed, ReportsRefusal, ReportsRun, ReportsText, due_status};
@@ -80,8 +80,9 @@ pub fn chord<R: Threads + Wait + Sync, S: Source, K: Sink, G: Gate + Sync>(
         Finishes request (S.left source.old) result (K.taken sink.old) (K.taken sink.new) 8) }
 
     // Whatever the status, at most one byte more is read than the source of a program may have, and nothing where the arguments
-    // are not accepted.
+    // are not accepted. A source that is too long wants no memory: where it ran out no more was read than a source may have.
     ensures taken { GaveAtMost 1048577 (S.left source.old) (S.left source.new) }
+    ensures status_7_within { result.status ≡ 7 → GaveAtMost 1048576 (S.left source.old) (S.left source.new) }
     ensures unaccepted_unread { (AreAccepted (argument_bytes arguments.now) → ⊥)
         → (S.left source.new ≡ S.left source.old) × (S.faults source.new ≡ S.faults source.old) }
 
@@ -129,6 +130,7 @@ fn answer<R: Threads + Wait + Sync, S: Source, K: Sink, G: Gate + Sync>(
     ensures words_accepted { (result.status ≡ 2) ⊎ (result.status ≡ 7) ⊎ AreAccepted (argument_bytes arguments.now) }
     ensures read_fault { result.status ≡ 3 → Rose (S.faults source.old) (S.faults source.new) }
     ensures read_within { result.status ≡ 3 → GaveAtMost 1048576 (S.left source.old) (S.left source.new) }
+    ensures memory_within { result.status ≡ 7 → GaveAtMost 1048576 (S.left source.old) (S.left source.new) }
     ensures write_fault { result.status ≡ 5 → Rose (K.faults sink.old) (K.faults sink.new) }
     ensures read_told { (result.status ≡ 3) ⊎ (S.faults source.new ≡ S.faults source.old) }
     ensures write_told { (result.status ≡ 5) ⊎ (K.faults sink.new ≡ K.faults sink.old) }
@@ -163,6 +165,7 @@ fn answer_request<R: Threads + Wait + Sync, S: Source, K: Sink, G: Gate + Sync>(
     ensures no_words_refused { result.status ≡ 2 → ⊥ }
     ensures read_fault { result.status ≡ 3 → Rose (S.faults source.old) (S.faults source.new) }
     ensures read_within { result.status ≡ 3 → GaveAtMost 1048576 (S.left source.old) (S.left source.new) }
+    ensures memory_within { result.status ≡ 7 → GaveAtMost 1048576 (S.left source.old) (S.left source.new) }
     ensures write_fault { result.status ≡ 5 → Rose (K.faults sink.old) (K.faults sink.new) }
     ensures read_told { (result.status ≡ 3) ⊎ (S.faults source.new ≡ S.faults source.old) }
     ensures write_told { (result.status ≡ 5) ⊎ (K.faults sink.new ≡ K.faults sink.old) }
@@ -218,6 +221,7 @@ fn answer_read<R: Threads + Wait + Sync, S: Source, K: Sink, G: Gate + Sync>(
     ensures no_words_refused { result.status ≡ 2 → ⊥ }
     ensures read_fault { result.status ≡ 3 → Rose (S.faults source.old) (S.faults source.new) }
     ensures read_within { result.status ≡ 3 → GaveAtMost 1048576 (S.left source.old) (S.left source.new) }
+    ensures memory_within { result.status ≡ 7 → GaveAtMost 1048576 (S.left source.old) (S.left source.new) }
     ensures write_fault { result.status ≡ 5 → Rose (K.faults sink.old) (K.faults sink.new) }
     ensures read_told { (result.status ≡ 3) ⊎ (S.faults source.new ≡ S.faults source.old) }
     ensures write_told { (result.status ≡ 5) ⊎ (K.faults sink.new ≡ K.faults sink.old) }
@@ -319,6 +323,7 @@ fn refuse<K: Sink>(source: &[u8], refusal: Refusal, byte: u32, sink: &mut K) -> 
     requires { PointsAt source.now refusal byte }
     ensures table { (result.journal ≡ None) × (result.table ≡ None) }
     ensures answered { ReportsRefusal source.now refusal result (K.taken sink.old) (K.taken sink.new) }
+    ensures sure { result.status ≡ 7 → ⊥ }
     ensures fault { result.status ≡ 5 → Rose (K.faults sink.old) (K.faults sink.new) }
     ensures told { (result.status ≡ 5) ⊎ (K.faults sink.new ≡ K.faults sink.old) }
 {

@@ -28,3 +28,12 @@ pub returns-in-Ok-clause-made_unread : goal.returns-in-Ok-clause-made_unread
 returns-in-Ok-clause-made_unread g c request k asks made =
     let same = one_request _ c.in-Ok.request request c.in-Ok.ensures.requested asks in
     c.answer_request.ensures.made_unread k (ap (λ (r : Request). made_from r.mode) same ∙ made)
+
+pub returns-in-Ok-clause-memory_within : goal.returns-in-Ok-clause-memory_within
+returns-in-Ok-clause-memory_within g c = c.answer_request.ensures.memory_within
+
+pub returns-in-Err-Refused-clause-memory_within : goal.returns-in-Err-Refused-clause-memory_within
+returns-in-Err-Refused-clause-memory_within g c _ = ([], omega arith, Gave-nothing _)
+
+pub returns-in-Err-Memory-clause-memory_within : goal.returns-in-Err-Memory-clause-memory_within
+returns-in-Err-Memory-clause-memory_within g c _ = ([], omega arith, Gave-nothing _)

@@ -22,3 +22,12 @@ returns-in-Err-TooLong-clause-taken g c = c.in-Err-TooLong.ensures.part
 
 pub returns-in-Ok-clause-taken : goal.returns-in-Ok-clause-taken
 returns-in-Ok-clause-taken g c = (c.in-Ok.bytes.items, omega (arith, c.in-Ok.ensures.fits, c.in-Ok.bytes.ok.0), c.in-Ok.ensures.gave)
+
+pub returns-in-Err-Memory-clause-memory_within : goal.returns-in-Err-Memory-clause-memory_within
+returns-in-Err-Memory-clause-memory_within g c _ = let m = c.in-Err-Memory.ensures.memory_within (rw c.in-Err-Memory.field-0-is refl) in (m.0, m.2, m.3)
+
+pub returns-in-Err-TooLong-clause-memory_within : goal.returns-in-Err-TooLong-clause-memory_within
+returns-in-Err-TooLong-clause-memory_within g c e = absurd (c.refuse.ensures.sure e)
+
+pub returns-in-Ok-clause-memory_within : goal.returns-in-Ok-clause-memory_within
+returns-in-Ok-clause-memory_within g c _ = (c.in-Ok.bytes.items, omega (arith, c.in-Ok.ensures.fits, c.in-Ok.bytes.ok.0), c.in-Ok.ensures.gave)
