@@ -34,7 +34,9 @@ returns-in-Ok-clause-read c =
 
 pub returns-in-Err-clause-memory : goal.returns-in-Err-clause-memory
 returns-in-Err-clause-memory c = λ memory.
-    let ended = sym c.begins_digit.ensures ∙ c.loop-text-test.false in
-    (c.loop-text.text.items, c.loop-text.rest.now,
+    let ended = sym c.begins_digit.ensures ∙ c.loop-text-test.false in (
+      c.loop-text.text.items,
+      c.loop-text.rest.now,
       sym c.loop-text.invariant ∙ many_end begins_digit byte_at _ _ _ ended,
-      grind (arith, ap length c.as_slice.ensures.value, c.in-Err.ensures.short))
+      grind (arith, ap length c.as_slice.ensures.value, c.in-Err.ensures.short),
+    )
