@@ -1,12 +1,12 @@
 //! The blocks of bodies and of builders.
 #![tactic(auto)]
 
-ghost use Rattle.std.specs.Prelude.{◌≡◌, ℕ, IfSome, Some, ◌++◌, ◌∷◌, [], length, map, IfOk, OnOk, slice_get, option_map};
+ghost use Rattle.std.specs.Prelude.{◌≡◌, ℕ, IfSome, Some, ◌++◌, ◌∷◌, [], length, map, true, IfOk, OnOk, OnErr, slice_get, option_map};
 ghost use Rattle.std.specs.Option.{option_copied};
 ghost use Rattle.chord_bodies.specs.BodyView.{view_body};
 ghost use Rattle.chord_gen.specs.Emitted.{then_code};
-ghost use Rattle.chord_gen.specs.Translation.{body_block, own_code, own_slots};
-ghost use Rattle.chord_gen.specs.Building.{AreNarrowBodies, named_body, init_listed};
+ghost use Rattle.chord_gen.specs.Translation.{body_block, has_own, own_code, own_slots};
+ghost use Rattle.chord_gen.specs.Building.{AreNarrowBodies, named_body, is_told, init_listed};
 ghost use Rattle.chord_code.specs.declared.instruction.Instruction.TheVariants as i;
 
 use crate::instructions::put;
@@ -70,7 +70,8 @@ pub fn block_of_builder(
 
 /// Emits the instruction that runs the builder of a class, if there is one.
 fn put_init(code: &mut Vec<Instruction>, init: Option<u16>) -> Result<(), AllocError>
-    ensures { OnOk result (code.new.items ≡ code.old.items ++ init_listed init) }
+    ensures emitted { OnOk result (code.new.items ≡ code.old.items ++ init_listed init) }
+    ensures lacks { OnErr result (is_told init ≡ true) }
 {
     match init {
         None => Ok(()),
@@ -86,7 +87,8 @@ fn put_own(
     constructor_body: Option<u32>,
 ) -> Result<(), AllocError>
     requires narrow { AreNarrowBodies bodies.now }
-    ensures { OnOk result (code.new.items ≡ code.old.items ++ own_code (named_body bodies.now constructor_body) (length code.old.items)) }
+    ensures emitted { OnOk result (code.new.items ≡ code.old.items ++ own_code (named_body bodies.now constructor_body) (length code.old.items)) }
+    ensures lacks { OnErr result (has_own (named_body bodies.now constructor_body) ≡ true) }
 {
     match own_constructor(bodies, constructor_body) {
         None => Ok(()),

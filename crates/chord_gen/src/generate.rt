@@ -25,7 +25,7 @@ use std::alloc::{AllocError, Global};
 ///
 /// # Errors
 ///
-/// `AllocError` where no memory is found; that a block would have 2^32 instructions, or the code 2^32 blocks, is taken
+/// `AllocError` where no memory is found; a jump to a place past 2^32, or that the code would have 2^32 blocks, is taken
 /// for that.
 pub fn generate(alloc: Global, plan: &Layout, bodies: &[Body]) -> Result<Code, AllocError>
     requires typed { IsTypedSource (source_of plan.now bodies.now) }

@@ -16,7 +16,7 @@ pub fn put(code: &mut Vec<Instruction>, instruction: Instruction) -> Result<(), 
     Ok(())
 }
 
-/// The place of the next instruction. A block of 2^32 instructions is taken for too much memory.
+/// The place of the next instruction. One past 2^32 is taken for too much memory.
 pub fn next_place(code: &Vec<Instruction>) -> Result<u32, AllocError>
     ensures place { IfOk result (λ place. place ≡ length code.now.items) }
     ensures large { OnErr result (4294967296 ≤ length code.now.items) }

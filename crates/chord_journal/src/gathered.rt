@@ -11,7 +11,7 @@ use std::alloc::{AllocError, Global};
 ///
 /// # Errors
 ///
-/// `AllocError` where there is no memory for sorting, which is asked for only where a number is there twice: the `requires` excludes it.
+/// `AllocError` where there is no memory for sorting. The code asks for it only where a number is there twice, which the `requires` excludes; no clause says so.
 pub fn gather(alloc: Global, entries: Vec<Entry>) -> Result<Journal, AllocError>
     requires { AreOfJournal entries.items }
     ensures { IfOk result (λ journal. IsPermutation entries.items journal) }
@@ -34,8 +34,9 @@ fn arrange(alloc: Global, entries: &mut [Entry]) -> Result<(), AllocError>
     Ok(())
 }
 
-/// Puts each entry into the place of its number, from the front on, and gives how many stand there in the end: all, where no number
-/// is there twice. A step passes an entry or puts one into its place, so that twice as many steps as there are entries do.
+/// Puts each entry into the place of its number, from the front on, and gives how many stand there in the end. By the code these are all,
+/// where no number is there twice: a step passes an entry or puts one into its place, so that twice as many steps as there are entries
+/// do. No clause says so.
 fn put_in_place(entries: &mut [Entry]) -> usize
     requires few { length entries.old ≤ 65536 }
     ensures moved { IsPermutation entries.old entries.new }

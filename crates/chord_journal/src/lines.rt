@@ -14,7 +14,7 @@ use chord_io::{Failed, Sink, write_all};
 /// The bytes of the longest line, with its end.
 const LINE_BYTES: usize = MAX_TEXT_BYTES + 1;
 
-/// Writes the lines of a journal, each with one `write_all`.
+/// Writes the lines of a journal. The code writes each with one `write_all`; the clauses say what is written, not in how many calls.
 ///
 /// # Errors
 ///

@@ -18,8 +18,8 @@ const STRETCH: usize = 1024;
 ///
 /// # Errors
 ///
-/// `AllocError` where there is no memory for the entries beside the lists, or for sorting, which is asked for only where a number is there twice:
-/// the `requires` excludes that.
+/// `AllocError` where there is no memory for the entries beside the lists, or for sorting. The code asks for that only where a number is there twice,
+/// which the `requires` excludes; no clause says so.
 pub fn gather_lists(alloc: Global, lists: Vec<Vec<Entry>>) -> Result<Journal, AllocError>
     requires { AreOfJournal (flat_map (λ list. list.items) lists.items) }
     ensures { IfOk result (λ journal. IsPermutation (flat_map (λ list. list.items) lists.items) journal) }
@@ -31,7 +31,8 @@ pub fn gather_lists(alloc: Global, lists: Vec<Vec<Entry>>) -> Result<Journal, Al
     gather(alloc, entries)
 }
 
-/// The entries of the lists side by side, and how many stand in the places of their numbers, from the front on: all, where no number is there twice.
+/// The entries of the lists side by side, and how many stand in the places of their numbers, from the front on. By the code these are all, where no number
+/// is there twice; no clause says so.
 fn merged(alloc: Global, lists: Vec<Vec<Entry>>) -> Result<(Vec<Entry>, usize), AllocError>
     requires few { length (flat_map (λ list. list.items) lists.items) ≤ 65536 }
     ensures moved { IfOk result (λ r. IsPermutation (flat_map (λ list. list.items) lists.items) r.0.items) }

@@ -1,5 +1,5 @@
 //! Reading the parts of a line from its front.
-ghost use Rattle.std.specs.Prelude.{◌≡◌, ◌<◌, ◌≤◌, None, IfOk, IfErr, OnErr, IfSome, EachIndex, length, slice_index};
+ghost use Rattle.std.specs.Prelude.{◌≡◌, ℕ, ◌<◌, ◌≤◌, List, Some, None, IfOk, IfErr, OnErr, IfSome, EachIndex, length, slice_index};
 ghost use Rattle.std.specs.List.{prefix_len};
 ghost use Rattle.std.specs.Char.{is_ascii_digit};
 ghost use Rattle.chord_journal.specs.Reading.{ReadsAs, decimal_at, negative_at, value_if_below, int_at, byte_at, text_at, object_at};
@@ -142,7 +142,8 @@ pub fn read_object(bytes: &[u8]) -> Result<(Object, &[u8]), LineFault>
 
 /// The bytes of a text, two hexadecimal digits each.
 pub fn read_text(alloc: Global, bytes: &[u8]) -> Result<(Text, &[u8]), LineFault>
-    ensures { ReadsAs (λ x. (x.0, x.1.now)) result (text_at bytes.now) }
+    ensures read { ReadsAs (λ x. (x.0, x.1.now)) result (text_at bytes.now) }
+    ensures memory { IfErr result (λ fault. fault ≡ LineFault.Memory → (t : List ℕ) × (rest : List ℕ) × (text_at bytes.now ≡ Some (t, rest)) × (8 < length t)) }
 {
     let mut text = ArrayVec::<u8, MAX_TEXT_BYTES>::new();
     let mut rest = bytes;

@@ -39,7 +39,8 @@ impl<T: Drop> From<AllocFailed<T>> for JournalFault {
 ///
 /// `At` exactly where the bytes are no text of a journal, with the least line that is wrong: line 0 is no header,
 /// line i + 1 is missing or is not the line of an entry with number i, or a byte follows the last line.
-/// `Memory` where the call ran out of memory, for which it asks only behind a header that counts an entry.
+/// `Memory` where the call ran out of memory, for which it asks only behind a header that counts an entry. Once it has
+/// asked, a wrong entry may be told as `Memory` too.
 pub fn read(alloc: Global, bytes: &[u8]) -> Result<Journal, JournalFault>
     // What is read has these bytes as its text.
     ensures found { IfOk result (λ journal. (bytes.now ≡ journal_text journal) × AreTyped journal) }

@@ -25,7 +25,7 @@ loop-place-init c =
 
 pub returns-in-Err-Wrong-read_entry-clause-wrong : goal.returns-in-Err-Wrong-read_entry-clause-wrong
 returns-in-Err-Wrong-read_entry-clause-wrong c k same =
-    let none = (let read = c.in-Err-Wrong-read_entry.ensures in rw c.in-Err-Wrong-read_entry.field-0-is at read) in
+    let none = (let read = c.in-Err-Wrong-read_entry.ensures.read in rw c.in-Err-Wrong-read_entry.field-0-is at read) in
     subst (λ line. IsWrongAt c.args.bytes.now line) (named (c.loop-place.place + 1) k same)
     (wrong_line _ _ _ _ c.loop-place.place c.loop-place.invariant.begun c.loop-place.invariant.long c.loop-place-test.true none)
 
@@ -41,7 +41,7 @@ pub loop-place-preserved : goal.loop-place-preserved
 loop-place-preserved c =
     let long = c.loop-place.invariant.long in
     let entry = c.in-Ok-read_entry.entry in
-    let read = rw (← long) at c.in-Ok-read_entry.ensures in
+    let read = rw (← long) at c.in-Ok-read_entry.ensures.read in
     let less : length c.loop-place.entries.items < c.in-Ok.header.0 = omega (arith, long, c.loop-place-test.true) in
     rw c.in_ok-push-in-Ok-read_entry.ensures.items
     (record {
