@@ -1,18 +1,23 @@
 //! A block's instructions as they are written.
 #![tactic(auto)]
 
-ghost use Rattle.std.specs.Prelude.{◌≡◌, ◌≤◌, ◌<◌, [], ◌∷◌, ◌++◌, length, OnOk, OnErr, IfOk, slice_set};
+ghost use Rattle.std.specs.Prelude.{◌≡◌, ◌≤◌, ◌<◌, [], ◌∷◌, ◌++◌, length, vec_len, vec_capacity, OnOk, OnErr, IfOk, IsOk, slice_set};
+ghost use Rattle.chord_base.specs.Room.{HasGrown};
 ghost use Rattle.chord_gen.specs.Emitted.{operator_code};
 
 use chord_base::operation::Operation;
+use chord_base::room::reserve_one;
 use chord_code::instruction::Instruction;
 use std::alloc::AllocError;
 
-/// Adds an instruction at the end.
+/// Adds an instruction at the end. A full block gets twice its room.
 pub fn put(code: &mut Vec<Instruction>, instruction: Instruction) -> Result<(), AllocError>
-    ensures { OnOk result (code.new.items ≡ code.old.items ++ instruction ∷ []) }
+    ensures added { OnOk result (code.new.items ≡ code.old.items ++ instruction ∷ []) }
+    ensures stays { vec_len code.old < vec_capacity code.old → IsOk result }
+    ensures grown { OnOk result (HasGrown (vec_len code.old) (vec_capacity code.old) (vec_capacity code.new)) }
 {
-    code.push(instruction)?;
+    reserve_one(code)?;
+    code.push_reserved(instruction);
     Ok(())
 }
 

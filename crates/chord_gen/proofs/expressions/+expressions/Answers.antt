@@ -194,7 +194,7 @@ method_call-returns t c =
     let args = expr_list (map view_expr call.arguments.items) in
     let count = c.len.ensures ∙ call.arguments.ok.0 ∙ sym (count_is call.arguments.items) in
     subst (λ (z : CallOf). OnOk c.put.result (GoesOnAs (λ receiver. to.Call receiver z.class z.method z.result z.arguments) c.args.code.now.items c.put.new.code.items)) (sym (viewed_call call))
-    (ok_gives c.put.result (c.put.new.code.items ≡ c.expressions.new.code.items ++ i.Call call.method c.len.result ∷ []) (GoesOnAs (λ receiver. to.Call receiver call.class call.method call.result args) c.args.code.now.items c.put.new.code.items) (λ h front e k. call_emitted front c.args.code.now.items _ _ e args (expr_list (map view_expr c.deref.result.now)) call.class call.method c.len.result call.result (ap (λ z. expr_list (map view_expr z)) c.deref.ensures.value) count c.in_ok-expressions.ensures h k) c.put.ensures)
+    (ok_gives c.put.result (c.put.new.code.items ≡ c.expressions.new.code.items ++ i.Call call.method c.len.result ∷ []) (GoesOnAs (λ receiver. to.Call receiver call.class call.method call.result args) c.args.code.now.items c.put.new.code.items) (λ h front e k. call_emitted front c.args.code.now.items _ _ e args (expr_list (map view_expr c.deref.result.now)) call.class call.method c.len.result call.result (ap (λ z. expr_list (map view_expr z)) c.deref.ensures.value) count c.in_ok-expressions.ensures h k) c.put.ensures.added)
 
 pub operation-right_of_and-requires : goal.operation-right_of_and-requires
 operation-right_of_and-requires t c = let e = size_link c.args.link.now in (omega arith, subst (λ (z : LinkOf). IsNarrow z.operand) (viewed_link c.args.link.now) c.requires.narrow)
@@ -222,18 +222,18 @@ operation-returns-in_ok-expression-in-By t c =
     let link = c.args.link.now in
     subst (λ (z : LinkOf). OnOk c.put.result (GoesOnAs (λ left. binary z.operator left z.operand) c.args.code.now.items c.put.new.code.items)) (sym (viewed_link link))
     (subst (λ o. OnOk c.put.result (GoesOnAs (λ left. binary o left (view_expr link.operand)) c.args.code.now.items c.put.new.code.items)) (sym c.in-By.is)
-    (ok_gives c.put.result (c.put.new.code.items ≡ c.expression.new.code.items ++ c.instruction_of.result ∷ []) (GoesOnAs (λ left. binary (By c.in-By.operation) left (view_expr link.operand)) c.args.code.now.items c.put.new.code.items) (λ h front e k. operator_emitted front c.args.code.now.items _ _ e (view_expr link.operand) c.in-By.operation c.instruction_of.result c.instruction_of.ensures c.in_ok-expression-in-By.ensures h k) c.put.ensures))
+    (ok_gives c.put.result (c.put.new.code.items ≡ c.expression.new.code.items ++ c.instruction_of.result ∷ []) (GoesOnAs (λ left. binary (By c.in-By.operation) left (view_expr link.operand)) c.args.code.now.items c.put.new.code.items) (λ h front e k. operator_emitted front c.args.code.now.items _ _ e (view_expr link.operand) c.in-By.operation c.instruction_of.result c.instruction_of.ensures c.in_ok-expression-in-By.ensures h k) c.put.ensures.added))
 
 pub right_of_and-expression-requires : goal.right_of_and-expression-requires
 right_of_and-expression-requires t c = (omega arith, c.requires.narrow)
 
 pub right_of_and-patch-requires : goal.right_of_and-patch-requires
 right_of_and-patch-requires t c =
-    below_more _ _ _ _ c.in_ok-put-3.ensures (below_more _ _ _ _ c.in_ok-put-2.ensures (below_more _ _ _ _ c.in_ok-expression.ensures (below_put _ _ _ _ c.in_ok-test.ensures.place c.in_ok-put.ensures)))
+    below_more _ _ _ _ c.in_ok-put-3.ensures.added (below_more _ _ _ _ c.in_ok-put-2.ensures.added (below_more _ _ _ _ c.in_ok-expression.ensures (below_put _ _ _ _ c.in_ok-test.ensures.place c.in_ok-put.ensures.added)))
 
 pub right_of_and-patch-requires-2 : goal.right_of_and-patch-requires-2
 right_of_and-patch-requires-2 t c =
-    let l = below_more _ _ _ _ c.in_ok-put-3.ensures (below_put _ _ _ _ c.in_ok-done.ensures.place c.in_ok-put-2.ensures) in
+    let l = below_more _ _ _ _ c.in_ok-put-3.ensures.added (below_put _ _ _ _ c.in_ok-done.ensures.place c.in_ok-put-2.ensures.added) in
     let m = ap length c.patch.ensures ∙ length-set c.put-3.new.code.items c.in_ok-test.test (i.Skip c.in_ok-other.other) in
     omega (arith, l, m)
 
@@ -241,18 +241,18 @@ pub right_of_and-returns : goal.right_of_and-returns
 right_of_and-returns t c =
     λ front e h.
     c.patch-2.ensures ∙ ap (λ z. slice_set z c.in_ok-done.done (i.Jump c.in_ok-end.end)) c.patch.ensures
-    ∙ ways_patched front (expr_code e (length front)) (expr_code (view_expr c.args.right.now)) (λ b. i.Flag false ∷ []) _ _ _ _ _ _ _ _ _ _ _ h c.in_ok-test.ensures.place c.in_ok-put.ensures c.in_ok-expression.ensures c.in_ok-done.ensures.place c.in_ok-put-2.ensures c.in_ok-other.ensures.place c.in_ok-put-3.ensures c.in_ok-end.ensures.place
+    ∙ ways_patched front (expr_code e (length front)) (expr_code (view_expr c.args.right.now)) (λ b. i.Flag false ∷ []) _ _ _ _ _ _ _ _ _ _ _ h c.in_ok-test.ensures.place c.in_ok-put.ensures.added c.in_ok-expression.ensures c.in_ok-done.ensures.place c.in_ok-put-2.ensures.added c.in_ok-other.ensures.place c.in_ok-put-3.ensures.added c.in_ok-end.ensures.place
 
 pub right_of_or-expression-requires : goal.right_of_or-expression-requires
 right_of_or-expression-requires t c = (omega arith, c.requires.narrow)
 
 pub right_of_or-patch-requires : goal.right_of_or-patch-requires
 right_of_or-patch-requires t c =
-    below_more _ _ _ _ c.in_ok-expression.ensures (below_more _ _ _ _ c.in_ok-put-3.ensures (below_more _ _ _ _ c.in_ok-put-2.ensures (below_put _ _ _ _ c.in_ok-test.ensures.place c.in_ok-put.ensures)))
+    below_more _ _ _ _ c.in_ok-expression.ensures (below_more _ _ _ _ c.in_ok-put-3.ensures.added (below_more _ _ _ _ c.in_ok-put-2.ensures.added (below_put _ _ _ _ c.in_ok-test.ensures.place c.in_ok-put.ensures.added)))
 
 pub right_of_or-patch-requires-2 : goal.right_of_or-patch-requires-2
 right_of_or-patch-requires-2 t c =
-    let l = below_more _ _ _ _ c.in_ok-expression.ensures (below_put _ _ _ _ c.in_ok-done.ensures.place c.in_ok-put-3.ensures) in
+    let l = below_more _ _ _ _ c.in_ok-expression.ensures (below_put _ _ _ _ c.in_ok-done.ensures.place c.in_ok-put-3.ensures.added) in
     let m = ap length c.patch.ensures ∙ length-set c.expression.new.code.items c.in_ok-test.test (i.Skip c.in_ok-other.other) in
     omega (arith, l, m)
 
@@ -260,4 +260,4 @@ pub right_of_or-returns : goal.right_of_or-returns
 right_of_or-returns t c =
     λ front e h.
     c.patch-2.ensures ∙ ap (λ z. slice_set z c.in_ok-done.done (i.Jump c.in_ok-end.end)) c.patch.ensures
-    ∙ ways_patched front (expr_code e (length front)) (λ b. i.Flag true ∷ []) (expr_code (view_expr c.args.right.now)) _ _ _ _ _ _ _ _ _ _ _ h c.in_ok-test.ensures.place c.in_ok-put.ensures c.in_ok-put-2.ensures c.in_ok-done.ensures.place c.in_ok-put-3.ensures c.in_ok-other.ensures.place c.in_ok-expression.ensures c.in_ok-end.ensures.place
+    ∙ ways_patched front (expr_code e (length front)) (λ b. i.Flag true ∷ []) (expr_code (view_expr c.args.right.now)) _ _ _ _ _ _ _ _ _ _ _ h c.in_ok-test.ensures.place c.in_ok-put.ensures.added c.in_ok-put-2.ensures.added c.in_ok-done.ensures.place c.in_ok-put-3.ensures.added c.in_ok-other.ensures.place c.in_ok-expression.ensures c.in_ok-end.ensures.place

@@ -20,7 +20,7 @@ pub statement-returns-in_ok-expression-in-Store : goal.statement-returns-in_ok-e
 statement-returns-in_ok-expression-in-Store t c =
     let base = c.args.code.now.items in
     ok_gives c.put.result (c.put.new.code.items ≡ c.expression.new.code.items ++ i.Store c.in-Store.slot ∷ []) (c.put.new.code.items ≡ base ++ stmt_code c.args.builder (view_stmt c.args.stmt.now) (length base))
-    (λ h. one_more_emitted base c.expression.new.code.items c.put.new.code.items (expr_code (view_expr c.in-Store.value) (length base)) (i.Store c.in-Store.slot) c.in_ok-expression-in-Store.ensures h ∙ ap (λ z. base ++ stmt_code c.args.builder z (length base)) (sym (ap view_stmt c.in-Store.is ∙ viewed_store c.in-Store.slot c.in-Store.value))) c.put.ensures
+    (λ h. one_more_emitted base c.expression.new.code.items c.put.new.code.items (expr_code (view_expr c.in-Store.value) (length base)) (i.Store c.in-Store.slot) c.in_ok-expression-in-Store.ensures h ∙ ap (λ z. base ++ stmt_code c.args.builder z (length base)) (sym (ap view_stmt c.in-Store.is ∙ viewed_store c.in-Store.slot c.in-Store.value))) c.put.ensures.added
 
 pub statement-expression-requires-in-Do : goal.statement-expression-requires-in-Do
 statement-expression-requires-in-Do t c =
@@ -150,12 +150,12 @@ if_then-statement-requires t c =
 
 pub if_then-patch-requires : goal.if_then-patch-requires
 if_then-patch-requires t c =
-    below_more _ _ _ _ c.in_ok-statement.ensures (below_put _ _ _ _ c.in_ok-skip.ensures.place c.in_ok-put.ensures)
+    below_more _ _ _ _ c.in_ok-statement.ensures (below_put _ _ _ _ c.in_ok-skip.ensures.place c.in_ok-put.ensures.added)
 
 pub if_then-returns : goal.if_then-returns
 if_then-returns t c =
     let base = c.args.code.now.items in
-    c.patch.ensures ∙ way_patched base (expr_code (view_expr c.args.test.now) (length base)) (stmt_code c.args.builder (view_stmt c.args.first.now)) _ _ _ _ _ _ c.in_ok-expression.ensures c.in_ok-skip.ensures.place c.in_ok-put.ensures c.in_ok-statement.ensures c.in_ok-end.ensures.place
+    c.patch.ensures ∙ way_patched base (expr_code (view_expr c.args.test.now) (length base)) (stmt_code c.args.builder (view_stmt c.args.first.now)) _ _ _ _ _ _ c.in_ok-expression.ensures c.in_ok-skip.ensures.place c.in_ok-put.ensures.added c.in_ok-statement.ensures c.in_ok-end.ensures.place
 
 pub if_else-expression-requires : goal.if_else-expression-requires
 if_else-expression-requires t c =
@@ -171,11 +171,11 @@ if_else-statement-requires-2 t c =
 
 pub if_else-patch-requires : goal.if_else-patch-requires
 if_else-patch-requires t c =
-    below_more _ _ _ _ c.in_ok-statement-2.ensures (below_more _ _ _ _ c.in_ok-put-2.ensures (below_more _ _ _ _ c.in_ok-statement.ensures (below_put _ _ _ _ c.in_ok-skip.ensures.place c.in_ok-put.ensures)))
+    below_more _ _ _ _ c.in_ok-statement-2.ensures (below_more _ _ _ _ c.in_ok-put-2.ensures.added (below_more _ _ _ _ c.in_ok-statement.ensures (below_put _ _ _ _ c.in_ok-skip.ensures.place c.in_ok-put.ensures.added)))
 
 pub if_else-patch-requires-2 : goal.if_else-patch-requires-2
 if_else-patch-requires-2 t c =
-    let l = below_more _ _ _ _ c.in_ok-statement-2.ensures (below_put _ _ _ _ c.in_ok-done.ensures.place c.in_ok-put-2.ensures) in
+    let l = below_more _ _ _ _ c.in_ok-statement-2.ensures (below_put _ _ _ _ c.in_ok-done.ensures.place c.in_ok-put-2.ensures.added) in
     let m = ap length c.patch.ensures ∙ length-set c.statement-2.new.code.items c.in_ok-skip.skip (i.Skip c.in_ok-other.other) in
     omega (arith, l, m)
 
@@ -183,7 +183,7 @@ pub if_else-returns : goal.if_else-returns
 if_else-returns t c =
     let base = c.args.code.now.items in
     c.patch-2.ensures ∙ ap (λ z. slice_set z c.in_ok-done.done (i.Jump c.in_ok-end.end)) c.patch.ensures
-    ∙ ways_patched base (expr_code (view_expr c.args.test.now) (length base)) (stmt_code c.args.builder (view_stmt c.args.first.now)) (stmt_code c.args.builder (view_stmt c.args.second.now)) _ _ _ _ _ _ _ _ _ _ _ c.in_ok-expression.ensures c.in_ok-skip.ensures.place c.in_ok-put.ensures c.in_ok-statement.ensures c.in_ok-done.ensures.place c.in_ok-put-2.ensures c.in_ok-other.ensures.place c.in_ok-statement-2.ensures c.in_ok-end.ensures.place
+    ∙ ways_patched base (expr_code (view_expr c.args.test.now) (length base)) (stmt_code c.args.builder (view_stmt c.args.first.now)) (stmt_code c.args.builder (view_stmt c.args.second.now)) _ _ _ _ _ _ _ _ _ _ _ c.in_ok-expression.ensures c.in_ok-skip.ensures.place c.in_ok-put.ensures.added c.in_ok-statement.ensures c.in_ok-done.ensures.place c.in_ok-put-2.ensures.added c.in_ok-other.ensures.place c.in_ok-statement-2.ensures c.in_ok-end.ensures.place
 
 pub while_loop-statement-requires : goal.while_loop-statement-requires
 while_loop-statement-requires t c =
@@ -191,7 +191,7 @@ while_loop-statement-requires t c =
 
 pub while_loop-patch-requires : goal.while_loop-patch-requires
 while_loop-patch-requires t c =
-    below_more _ _ _ _ c.in_ok-statement.ensures (below_put _ _ _ _ c.in_ok-jump.ensures.place c.in_ok-put.ensures)
+    below_more _ _ _ _ c.in_ok-statement.ensures (below_put _ _ _ _ c.in_ok-jump.ensures.place c.in_ok-put.ensures.added)
 
 pub while_loop-expression-requires : goal.while_loop-expression-requires
 while_loop-expression-requires t c =
@@ -201,4 +201,4 @@ pub while_loop-returns : goal.while_loop-returns
 while_loop-returns t c =
     let base = c.args.code.now.items in
     ok_gives c.put-2.result (c.put-2.new.code.items ≡ c.expression.new.code.items ++ i.Again c.in_ok-round.round ∷ []) (c.put-2.new.code.items ≡ base ++ stmt_code c.args.builder (to.While (view_expr c.args.test.now) (view_stmt c.args.body.now)) (length base))
-    (λ h. h ∙ loop_patched base (expr_code (view_expr c.args.test.now)) (stmt_code c.args.builder (view_stmt c.args.body.now)) _ _ _ _ _ _ _ _ c.in_ok-jump.ensures.place c.in_ok-put.ensures c.in_ok-round.ensures.place c.in_ok-statement.ensures c.in_ok-place.ensures.place c.patch.ensures c.in_ok-expression.ensures) c.put-2.ensures
+    (λ h. h ∙ loop_patched base (expr_code (view_expr c.args.test.now)) (stmt_code c.args.builder (view_stmt c.args.body.now)) _ _ _ _ _ _ _ _ c.in_ok-jump.ensures.place c.in_ok-put.ensures.added c.in_ok-round.ensures.place c.in_ok-statement.ensures c.in_ok-place.ensures.place c.patch.ensures c.in_ok-expression.ensures) c.put-2.ensures.added
