@@ -1,7 +1,7 @@
 //! The plan of a class.
 #![tactic(auto)]
 
-ghost use Rattle.std.specs.Prelude.{◌≡◌, [], ◌∷◌, ◌++◌, IfOk, map};
+ghost use Rattle.std.specs.Prelude.{◌≡◌, ◌≤◌, ◌+◌, [], ◌∷◌, ◌++◌, IfOk, OnErr, length, map};
 ghost use Rattle.chord_tree.specs.View.{see_class, see_header, see_member};
 ghost use Rattle.chord_bodies.specs.View.{view_method_plan, view_chord_plan, view_class_plan};
 ghost use Rattle.chord_classes.specs.Table.{methods_at};
@@ -167,7 +167,8 @@ pub fn own_chords(
 
 /// The first constructor among members, of which the first has this number.
 pub fn own_builder(first: u32, members: &[Member]) -> Result<Option<u32>, AllocError>
-    ensures { IfOk result (λ builder. builder ≡ own_builder first (map see_member members.now)) }
+    ensures builder { IfOk result (λ builder. builder ≡ own_builder first (map see_member members.now)) }
+    ensures large { OnErr result (4294967296 ≤ first + length members.now) }
 {
     let mut number = first;
     for member in members {

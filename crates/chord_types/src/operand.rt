@@ -1,7 +1,7 @@
 //! Resolved expressions with their types, to which operators and calls are added.
 #![tactic(auto)]
 
-ghost use Rattle.std.specs.Prelude.{◌≡◌, ◌≤◌, ◌+◌, [], ◌∷◌, length, map, sum_by, cond, IfOk, option_map};
+ghost use Rattle.std.specs.Prelude.{◌≡◌, ◌<◌, ◌≤◌, ◌+◌, [], ◌∷◌, length, map, sum_by, cond, true, is_some, IfOk, IsOk, OnErr, option_map};
 ghost use Rattle.chord_bodies.specs.Resolved as to;
 ghost use Rattle.chord_bodies.specs.View.{view_expr, view_stmt, view_call, view_link, calls_on, links_on, expr_list};
 ghost use Rattle.chord_classes.specs.Types.{type_known, is_sync, result_known};
@@ -49,6 +49,7 @@ pub(crate) fn int_of(value: u32) -> i32
 pub(crate) fn text_of(alloc: Global, bytes: &[u8]) -> Result<Expr, AllocError>
     ensures built { IfOk result (λ e. length bytes.now ≤ 1024 → view_expr e ≡ to.TextOf bytes.now) }
     ensures flat { IfOk result (λ e. doubled e ≡ 0) }
+    ensures lacks { OnErr result ((8 < length bytes.now) × (length bytes.now ≤ 1024)) }
 {
     match Text::of_bytes(alloc, bytes) {
         Ok(text) => Ok(Expr::Text(text)),
@@ -149,6 +150,7 @@ pub(crate) fn call_of(
 ) -> Result<Expr, AllocError>
     ensures built { IfOk result (λ e. view_expr e ≡ call_of table.now (option_map see_target target.entry) (view_expr receiver) (expr_list (map view_expr arguments.items))) }
     ensures flat { IfOk result (λ e. doubled e ≤ doubled receiver + sum_by doubled arguments.items) }
+    ensures lacks { OnErr result (is_some (option_map see_target target.entry) ≡ true) }
 {
     match target {
         Some(target) => {
@@ -196,6 +198,7 @@ pub(crate) fn done(
 pub(crate) fn printed(alloc: Global, arguments: Vec<Expr>) -> Result<Expr, AllocError>
     ensures built { IfOk result (λ e. view_expr e ≡ printed (expr_list (map view_expr arguments.items))) }
     ensures flat { IfOk result (λ e. doubled e ≤ sum_by doubled arguments.items) }
+    ensures always { IsOk result }
 {
     let mut arguments = arguments;
     if arguments.is_empty() {
