@@ -1,11 +1,12 @@
 //! Resolved expressions with their types, to which operators and calls are added.
 #![tactic(auto)]
 
-ghost use Rattle.std.specs.Prelude.{◌≡◌, ◌<◌, ◌≤◌, ◌+◌, [], ◌∷◌, length, map, sum_by, cond, true, is_some, IfOk, IsOk, OnErr, option_map};
+ghost use Rattle.std.specs.Prelude.{◌≡◌, ◌<◌, ◌≤◌, ◌+◌, [], ◌∷◌, length, map, sum_by, cond, true, Some, is_some, IfOk, IsOk, OnErr, option_map};
 ghost use Rattle.chord_bodies.specs.Resolved as to;
 ghost use Rattle.chord_bodies.specs.View.{view_expr, view_stmt, view_call, view_link, calls_on, links_on, expr_list};
 ghost use Rattle.chord_classes.specs.Types.{type_known, is_sync, result_known};
 ghost use Rattle.chord_classes.specs.Resolve.{int_of_number, call_of, done, printed};
+ghost use Rattle.chord_classes.specs.TypedTerms as terms;
 ghost use Rattle.chord_types.specs.Views.{see_target};
 ghost use Rattle.chord_types.specs.Flat.{doubled, doubled_link, doubled_call, doubled_stmt};
 
@@ -176,6 +177,7 @@ pub(crate) fn done(
 ) -> Result<Stmt, AllocError>
     ensures built { IfOk result (λ s. view_stmt s ≡ done table.now (option_map see_target target.entry) (view_expr receiver) (expr_list (map view_expr arguments.items))) }
     ensures flat { IfOk result (λ s. doubled_stmt s ≤ doubled receiver + sum_by doubled arguments.items) }
+    ensures lacks { OnErr result (option_map (λ (t : terms.Target). is_sync t.method.result_type) (option_map see_target target.entry) ≡ Some true) }
 {
     match target {
         None => Ok(Stmt::Do(receiver)),

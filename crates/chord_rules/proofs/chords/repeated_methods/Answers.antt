@@ -1,4 +1,4 @@
-use Rattle.std.proofs.Common.{◌+◌, ◌<◌, [], length, map, drop, sym, ap, subst}
+use Rattle.std.proofs.Common.{◌+◌, ◌<◌, arith, length, map, drop, sym, ap}
 use Rattle.std.specs.Prelude.{reverse}
 use Rattle.chord_tree.specs.View.{see_header}
 use Rattle.chord_classes.specs.ChordRules.{repeated}
@@ -15,5 +15,5 @@ loop-header-preserved c =
 
 pub returns-then-len-lt-2-clause-repeated : goal.returns-then-len-lt-2-clause-repeated
 returns-then-len-lt-2-clause-repeated c =
-    let few : length (map see_header c.args.headers.now) < 2 = subst (λ z. z < 2) (sym (map_length see_header c.args.headers.now)) c.if-len-lt-2.true in
+    let few : length (map see_header c.args.headers.now) < 2 = (let same = map_length see_header c.args.headers.now in omega (arith, same, c.len.ensures, c.if-len-lt-2.true)) in
     ap (λ z. least c.args.breaks.now.found (keys 7 z)) (sym (few_repeated (map see_header c.args.headers.now) few))
