@@ -1,7 +1,7 @@
 //! The rule on groups: a class overrides all methods of a group of its base class, or none.
 #![tactic(auto)]
 
-ghost use Rattle.std.specs.Prelude.{◌≡◌, ◌<◌, ◌∷◌, [], IfOk, OnOk, OnErr, map, slice_index};
+ghost use Rattle.std.specs.Prelude.{◌≡◌, ◌<◌, ◌∷◌, [], IfOk, OnOk, OnErr, length, map, slice_index};
 ghost use Rattle.chord_tree.specs.View.{see_header};
 ghost use Rattle.chord_bodies.specs.View.{view_chord_plan};
 ghost use Rattle.chord_classes.specs.Table.{inherited};

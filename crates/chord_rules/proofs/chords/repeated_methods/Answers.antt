@@ -13,7 +13,7 @@ loop-header-preserved c =
     (next_repeated c.loop-header.names c.in_ok-names.names c.items.result.now (see_header c.header-item.result) (map see_header (drop (c.loop-header.header-index + 1) c.args.headers.now)) _ _ c.in_ok-names.ensures c.items.ensures.bytes c.repeated_method.ensures)
     c.loop-header.invariant
 
-pub returns-then-len-lt-2-clause-repeated : goal.returns-then-len-lt-2-clause-repeated
-returns-then-len-lt-2-clause-repeated c =
-    let few : length (map see_header c.args.headers.now) < 2 = (let same = map_length see_header c.args.headers.now in omega (arith, same, c.len.ensures, c.if-len-lt-2.true)) in
+pub returns-then-headers-lt2-clause-repeated : goal.returns-then-headers-lt2-clause-repeated
+returns-then-headers-lt2-clause-repeated c =
+    let few : length (map see_header c.args.headers.now) < 2 = (let same = map_length see_header c.args.headers.now in omega (arith, same, c.if-headers-lt2.true)) in
     ap (λ z. least c.args.breaks.now.found (keys 7 z)) (sym (few_repeated (map see_header c.args.headers.now) few))
