@@ -1,5 +1,5 @@
 -- Names that stand before a parameter or a header.
-use Rattle.std.proofs.Common.{◌≡◌, ℕ, ◌+◌, List, [], ◌∷◌, ◌++◌, Bool, true, false, cond, ◌||◌, refl, sym, ap, ◌∙◌, append_assoc, Option, Some, is_some}
+use Rattle.std.proofs.Common.{◌≡◌, ℕ, ◌+◌, ◌<◌, List, [], ◌∷◌, ◌++◌, length, Bool, true, false, cond, ◌||◌, arith, refl, sym, ap, ◌∙◌, append_assoc, Option, Some, is_some}
 use Rattle.std.specs.Prelude.{reverse, not, ◌&&◌}
 use Rattle.std.specs.Str.{bytes_eq}
 use Rattle.std.specs.Cmp.Lexicographic.{nat_list_eq_equiv}
@@ -83,3 +83,14 @@ next_repeated names after name header rest o p e f h =
     then_noted 7 o p (when (not (is_main header) && named_in header.name.text (reverse names)) header.name.at) (repeated (header.name.text ∷ reverse names) rest)
     (h ∙ ap (λ z. least o (keys 7 (when (not (is_main header) && z) header.name.at))) (sym (named_place header.name.text names)))
     ∙ ap (λ z. least p (keys 7 (repeated z rest))) (sym (ap reverse (e ∙ ap (λ z. names ++ (z ∷ [])) f) ∙ reverse_push names header.name.text))
+
+-- one header stands behind no other
+alone : (other : Bool) (at : ℕ) → when (other && false) at ++ [] ≡ []
+alone true at = refl
+alone false at = refl
+
+-- of fewer than two headers none is repeated
+pub few_repeated : (headers : List HeaderTree) → length headers < 2 → repeated [] headers ≡ []
+few_repeated [] few = refl
+few_repeated (header ∷ []) few = alone (not (is_main header)) header.name.at
+few_repeated (header ∷ other ∷ more) few = absurd (omega (arith, few))

@@ -1,7 +1,7 @@
 //! The plan of a class.
 #![tactic(auto)]
 
-ghost use Rattle.std.specs.Prelude.{◌≡◌, [], ◌∷◌, ◌++◌, IfOk, map};
+ghost use Rattle.std.specs.Prelude.{◌≡◌, ◌<◌, ◌≤◌, ◌+◌, [], ◌∷◌, ◌++◌, true, is_some, IfOk, OnErr, length, map};
 ghost use Rattle.chord_tree.specs.View.{see_class, see_header, see_member};
 ghost use Rattle.chord_bodies.specs.View.{view_method_plan, view_chord_plan, view_class_plan};
 ghost use Rattle.chord_classes.specs.Table.{methods_at};
@@ -70,7 +70,8 @@ fn base_methods(
     plans: &[ClassPlan],
     base: Option<u32>,
 ) -> Result<Vec<MethodPlan>, AllocError>
-    ensures { IfOk result (λ methods. map view_method_plan methods.items ≡ base_methods (map view_class_plan plans.now) base) }
+    ensures methods { IfOk result (λ methods. map view_method_plan methods.items ≡ base_methods (map view_class_plan plans.now) base) }
+    ensures derived { OnErr result (is_some base ≡ true) }
 {
     let Some(class) = base else {
         return Ok(Vec::new(alloc));
@@ -128,7 +129,8 @@ fn with_chord(
     number: u32,
     member: &Member,
 ) -> Result<Vec<ChordPlan>, AllocError>
-    ensures { IfOk result (λ all. map view_chord_plan all.items ≡ map view_chord_plan chords.items ++ own_chords (methods_at table.now class) number (see_member member.now ∷ [])) }
+    ensures chords { IfOk result (λ all. map view_chord_plan all.items ≡ map view_chord_plan chords.items ++ own_chords (methods_at table.now class) number (see_member member.now ∷ [])) }
+    ensures one { OnErr result (0 < length (own_chords (methods_at table.now class) number (see_member member.now ∷ []))) }
 {
     let mut chords = chords;
     match member {
@@ -167,7 +169,8 @@ pub fn own_chords(
 
 /// The first constructor among members, of which the first has this number.
 pub fn own_builder(first: u32, members: &[Member]) -> Result<Option<u32>, AllocError>
-    ensures { IfOk result (λ builder. builder ≡ own_builder first (map see_member members.now)) }
+    ensures builder { IfOk result (λ builder. builder ≡ own_builder first (map see_member members.now)) }
+    ensures large { OnErr result (4294967296 ≤ first + length members.now) }
 {
     let mut number = first;
     for member in members {

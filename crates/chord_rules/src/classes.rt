@@ -229,10 +229,10 @@ fn into_plans(progress: Progress) -> Vec<ClassPlan>
     progress.plans
 }
 
-/// The plans of classes, if they break no rule; notes the least break of the first class that breaks one.
+/// The plans of classes, if they break none of the plan's rules but C13; notes the least break of the first class that breaks one.
 ///
 /// It goes no further: all that a later class breaks stands behind that, and the classes before are within the limits,
-/// so that no look-up is long and no list that a class inherits.
+/// so that no look-up is long and no list that a class inherits. C13 speaks of all classes, and has a pass of its own.
 pub fn look<'a>(
     alloc: Global,
     classes: &'a [Class],

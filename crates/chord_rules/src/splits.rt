@@ -1,7 +1,7 @@
 //! The rule on groups: a class overrides all methods of a group of its base class, or none.
 #![tactic(auto)]
 
-ghost use Rattle.std.specs.Prelude.{◌≡◌, ◌<◌, ◌∷◌, [], IfOk, OnOk, OnErr, map, slice_index};
+ghost use Rattle.std.specs.Prelude.{◌≡◌, ◌<◌, ◌∷◌, [], IfOk, OnOk, OnErr, length, map, slice_index};
 ghost use Rattle.chord_tree.specs.View.{see_header};
 ghost use Rattle.chord_bodies.specs.View.{view_chord_plan};
 ghost use Rattle.chord_classes.specs.Table.{inherited};
@@ -128,7 +128,8 @@ pub fn splits(
     breaks: &mut Least,
 ) -> Result<(), AllocError>
     requires { taken.now ≡ overridden (inherited table.now base) (map see_lent firsts.now.all.items) }
-    ensures { OnOk result (breaks.new.found ≡ least breaks.old.found (keys 11 (split_from (map view_chord_plan chords.now) taken.now (inherited table.now base) [] (overriding (inherited table.now base) (map see_lent firsts.now.all.items))))) }
+    ensures splits { OnOk result (breaks.new.found ≡ least breaks.old.found (keys 11 (split_from (map view_chord_plan chords.now) taken.now (inherited table.now base) [] (overriding (inherited table.now base) (map see_lent firsts.now.all.items))))) }
+    ensures none { OnErr result (0 < length taken.now) }
 {
     if taken.is_empty() {
         return Ok(());

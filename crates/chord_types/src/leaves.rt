@@ -1,7 +1,7 @@
 //! Expressions without parts: what they are resolved to, their types, and what they break.
 #![tactic(auto)]
 
-ghost use Rattle.std.specs.Prelude.{IfOk};
+ghost use Rattle.std.specs.Prelude.{◌<◌, ◌≤◌, IfOk, OnErr, length};
 ghost use Rattle.chord_tree.specs.Terms.{VariableTerm, ThisTerm, NumberTerm, LiteralTerm, BoolTerm};
 ghost use Rattle.chord_types.specs.Checked.{IsReceiver};
 ghost use Rattle.chord_types.specs.Views.{see_role};
@@ -68,7 +68,8 @@ pub(crate) fn literal(
     at: u32,
     breaks: &mut Least,
 ) -> Result<Operand, AllocError>
-    ensures { IfOk result (λ r. IsReceiver (see_site site.now) (see_role role) (LiteralTerm bytes.now at) breaks.old.found breaks.new.found r) }
+    ensures receiver { IfOk result (λ r. IsReceiver (see_site site.now) (see_role role) (LiteralTerm bytes.now at) breaks.old.found breaks.new.found r) }
+    ensures lacks { OnErr result ((8 < length bytes.now) × (length bytes.now ≤ 1024)) }
 {
     judge_literal(bytes, at, breaks);
     Ok(Operand {

@@ -1,11 +1,12 @@
 //! Resolved expressions with their types, to which operators and calls are added.
 #![tactic(auto)]
 
-ghost use Rattle.std.specs.Prelude.{◌≡◌, ◌≤◌, ◌+◌, [], ◌∷◌, length, map, sum_by, cond, IfOk, option_map};
+ghost use Rattle.std.specs.Prelude.{◌≡◌, ◌<◌, ◌≤◌, ◌+◌, [], ◌∷◌, length, map, sum_by, cond, true, Some, is_some, IfOk, IsOk, OnErr, option_map};
 ghost use Rattle.chord_bodies.specs.Resolved as to;
 ghost use Rattle.chord_bodies.specs.View.{view_expr, view_stmt, view_call, view_link, calls_on, links_on, expr_list};
 ghost use Rattle.chord_classes.specs.Types.{type_known, is_sync, result_known};
 ghost use Rattle.chord_classes.specs.Resolve.{int_of_number, call_of, done, printed};
+ghost use Rattle.chord_classes.specs.TypedTerms as terms;
 ghost use Rattle.chord_types.specs.Views.{see_target};
 ghost use Rattle.chord_types.specs.Flat.{doubled, doubled_link, doubled_call, doubled_stmt};
 
@@ -49,6 +50,7 @@ pub(crate) fn int_of(value: u32) -> i32
 pub(crate) fn text_of(alloc: Global, bytes: &[u8]) -> Result<Expr, AllocError>
     ensures built { IfOk result (λ e. length bytes.now ≤ 1024 → view_expr e ≡ to.TextOf bytes.now) }
     ensures flat { IfOk result (λ e. doubled e ≡ 0) }
+    ensures lacks { OnErr result ((8 < length bytes.now) × (length bytes.now ≤ 1024)) }
 {
     match Text::of_bytes(alloc, bytes) {
         Ok(text) => Ok(Expr::Text(text)),
@@ -149,6 +151,7 @@ pub(crate) fn call_of(
 ) -> Result<Expr, AllocError>
     ensures built { IfOk result (λ e. view_expr e ≡ call_of table.now (option_map see_target target.entry) (view_expr receiver) (expr_list (map view_expr arguments.items))) }
     ensures flat { IfOk result (λ e. doubled e ≤ doubled receiver + sum_by doubled arguments.items) }
+    ensures lacks { OnErr result (is_some (option_map see_target target.entry) ≡ true) }
 {
     match target {
         Some(target) => {
@@ -174,6 +177,7 @@ pub(crate) fn done(
 ) -> Result<Stmt, AllocError>
     ensures built { IfOk result (λ s. view_stmt s ≡ done table.now (option_map see_target target.entry) (view_expr receiver) (expr_list (map view_expr arguments.items))) }
     ensures flat { IfOk result (λ s. doubled_stmt s ≤ doubled receiver + sum_by doubled arguments.items) }
+    ensures lacks { OnErr result (option_map (λ (t : terms.Target). is_sync t.method.result_type) (option_map see_target target.entry) ≡ Some true) }
 {
     match target {
         None => Ok(Stmt::Do(receiver)),
@@ -196,6 +200,7 @@ pub(crate) fn done(
 pub(crate) fn printed(alloc: Global, arguments: Vec<Expr>) -> Result<Expr, AllocError>
     ensures built { IfOk result (λ e. view_expr e ≡ printed (expr_list (map view_expr arguments.items))) }
     ensures flat { IfOk result (λ e. doubled e ≤ sum_by doubled arguments.items) }
+    ensures always { IsOk result }
 {
     let mut arguments = arguments;
     if arguments.is_empty() {

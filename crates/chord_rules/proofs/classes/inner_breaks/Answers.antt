@@ -22,4 +22,4 @@ returns-clause-noted c =
     let taken = c.deref-4.ensures.value ∙ c.in_ok-taken.ensures ∙ ap (λ z. overridden (inherited done z) (map see_lent c.in_ok-firsts.firsts.all.items)) c.base_of-base.ensures ∙ ap (overridden (inherited done (base_of done class))) headers in
     inner_noted done (map view_class_plan c.args.plans.now) class c.base_of-base.result (map see_member c.deref.result.now) (map see_member c.deref-2.result.now) c.chord_room.result (map view_chord_plan c.base_chords-chords.result.now)
     (map see_lent c.in_ok-firsts.firsts.all.items) c.deref-4.result.now _ _ _ _ _ c.base_of-base.ensures (ap (map see_member) c.deref.ensures.value) (ap (map see_member) c.deref-2.ensures.value) c.chord_room.ensures c.base_chords-chords.ensures headers taken
-    c.in_ok-members_break.ensures c.chords_past.ensures c.headers_break.ensures c.in_ok-splits.ensures
+    c.in_ok-members_break.ensures c.chords_past.ensures c.headers_break.ensures c.in_ok-splits.ensures.splits

@@ -14,4 +14,4 @@ returns c =
     let headers = map see_header c.args.headers.now in
     noted_four _ _ _ _ _ (keys 21 (flat_map (header_barred (length headers)) headers)) (keys 7 (repeated [] headers)) (keys 6 (second_sync false headers)) (keys 8 (repeated_formals [] (flat_map formals_of_header headers)))
     (c.headers_barred.ensures ∙ ap (λ z. least c.args.breaks.now.found (keys 21 (flat_map (header_barred z) headers))) (sym (map_length see_header c.args.headers.now)))
-    c.in_ok-repeated_methods.ensures c.second_synchronous.ensures c.in_ok-headers_again.ensures
+    c.in_ok-repeated_methods.ensures.repeated c.second_synchronous.ensures c.in_ok-headers_again.ensures

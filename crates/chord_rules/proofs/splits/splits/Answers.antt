@@ -13,15 +13,15 @@ use Rattle.chord_rules.proofs.splits.splits.Goals as goal
 pub labels-requires : goal.labels-requires
 labels-requires c = subst (λ z. AllIn z (map view_chord_plan c.args.chords.now)) (sym c.above_chords-count.ensures) (under_chords _ (map view_chord_plan c.args.chords.now))
 
-pub returns-then-is_empty : goal.returns-then-is_empty
-returns-then-is_empty c =
+pub returns-then-is_empty-clause-splits : goal.returns-then-is_empty-clause-splits
+returns-then-is_empty-clause-splits c =
     let methods = inherited c.args.table.now c.args.base in
     let headers = map see_lent c.args.firsts.now.all.items in
     let none = none_overriding methods headers (sym c.requires ∙ no_header_length c.args.taken.now (sym c.is_empty.ensures ∙ c.if-is_empty.true)) in
     ap (λ z. least c.args.breaks.now.found (keys 11 (split_from (map view_chord_plan c.args.chords.now) c.args.taken.now methods [] z))) (sym none)
 
-pub returns : goal.returns
-returns c =
+pub returns-clause-splits : goal.returns-clause-splits
+returns-clause-splits c =
     let methods = inherited c.args.table.now c.args.base in
     let headers = map see_lent c.args.firsts.now.all.items in
     let chords = map view_chord_plan c.args.chords.now in

@@ -241,7 +241,7 @@ start-returns-in-Number t c =
 pub start-returns-in-Literal : goal.start-returns-in-Literal
 start-returns-in-Literal t c =
     let same = ap (λ z. started z c.args.minus) (ap see_start c.in-Literal.is ∙ seen_start_literal c.in-Literal.at c.in-Literal.bytes) ∙ ap (λ z. LiteralTerm z c.in-Literal.at) (sym c.items.ensures) in
-    if_ok c.literal.result _ _ (λ r h. subst (λ z. IsReceiver (see_site c.args.site.now) (see_role c.args.role) z c.args.breaks.now.found c.literal.new.breaks.found r) (sym same) h) c.literal.ensures
+    if_ok c.literal.result _ _ (λ r h. subst (λ z. IsReceiver (see_site c.args.site.now) (see_role c.args.role) z c.args.breaks.now.found c.literal.new.breaks.found r) (sym same) h) c.literal.ensures.receiver
 
 pub start-returns-in-True : goal.start-returns-in-True
 start-returns-in-True t c =

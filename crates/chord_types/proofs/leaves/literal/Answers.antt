@@ -6,8 +6,8 @@ use Rattle.chord_types.specs.Sites.{see_site}
 use Rattle.chord_types.proofs.Notes.{nothing_there, short_text}
 use Rattle.chord_types.proofs.leaves.literal.Goals as goal
 
-pub returns : goal.returns
-returns c =
+pub returns-clause-receiver : goal.returns-clause-receiver
+returns-clause-receiver c =
     let noted = c.judge_literal.ensures (see_site c.args.site.now) (see_role c.args.role) in
     record {
       checked = record {
