@@ -94,13 +94,13 @@ pub expression-returns-in_ok-expression-in-Negate : goal.expression-returns-in_o
 expression-returns-in_ok-expression-in-Negate t c =
     let base = c.args.code.now.items in
     let same = ap view_expr c.in-Negate.is ∙ viewed_negate c.in-Negate.operand in
-    ok_gives c.put-in-Negate.result (c.put-in-Negate.new.code.items ≡ c.expression.new.code.items ++ i.Neg ∷ []) (c.put-in-Negate.new.code.items ≡ c.args.code.now.items ++ expr_code (view_expr c.args.expr.now) (length c.args.code.now.items)) (λ h. unary_emitted base _ _ (view_expr c.args.expr.now) (view_expr c.in-Negate.operand.value) (view_expr c.deref.result.now) i.Neg (ap (λ z. expr_code z (length base)) same) (ap view_expr c.deref.ensures) c.in_ok-expression-in-Negate.ensures h) c.put-in-Negate.ensures
+    ok_gives c.put-in-Negate.result (c.put-in-Negate.new.code.items ≡ c.expression.new.code.items ++ i.Neg ∷ []) (c.put-in-Negate.new.code.items ≡ c.args.code.now.items ++ expr_code (view_expr c.args.expr.now) (length c.args.code.now.items)) (λ h. unary_emitted base _ _ (view_expr c.args.expr.now) (view_expr c.in-Negate.operand.value) (view_expr c.deref.result.now) i.Neg (ap (λ z. expr_code z (length base)) same) (ap view_expr c.deref.ensures) c.in_ok-expression-in-Negate.ensures h) c.put-in-Negate.ensures.added
 
 pub expression-returns-in_ok-expression-in-Deny : goal.expression-returns-in_ok-expression-in-Deny
 expression-returns-in_ok-expression-in-Deny t c =
     let base = c.args.code.now.items in
     let same = ap view_expr c.in-Deny.is ∙ viewed_deny c.in-Deny.operand in
-    ok_gives c.put-in-Deny.result (c.put-in-Deny.new.code.items ≡ c.expression-in-Deny.new.code.items ++ i.Not ∷ []) (c.put-in-Deny.new.code.items ≡ c.args.code.now.items ++ expr_code (view_expr c.args.expr.now) (length c.args.code.now.items)) (λ h. unary_emitted base _ _ (view_expr c.args.expr.now) (view_expr c.in-Deny.operand.value) (view_expr c.deref-in-Deny.result.now) i.Not (ap (λ z. expr_code z (length base)) same) (ap view_expr c.deref-in-Deny.ensures) c.in_ok-expression-in-Deny.ensures h) c.put-in-Deny.ensures
+    ok_gives c.put-in-Deny.result (c.put-in-Deny.new.code.items ≡ c.expression-in-Deny.new.code.items ++ i.Not ∷ []) (c.put-in-Deny.new.code.items ≡ c.args.code.now.items ++ expr_code (view_expr c.args.expr.now) (length c.args.code.now.items)) (λ h. unary_emitted base _ _ (view_expr c.args.expr.now) (view_expr c.in-Deny.operand.value) (view_expr c.deref-in-Deny.result.now) i.Not (ap (λ z. expr_code z (length base)) same) (ap view_expr c.deref-in-Deny.ensures) c.in_ok-expression-in-Deny.ensures h) c.put-in-Deny.ensures.added
 
 pub expression-returns-in_ok-operation-in-Chain : goal.expression-returns-in_ok-operation-in-Chain
 expression-returns-in_ok-operation-in-Chain t c =
@@ -113,7 +113,7 @@ expression-returns-in_ok-expressions-in-New t c =
     let base = c.args.code.now.items in
     let same = ap view_expr c.in-New.is ∙ viewed_new c.in-New.class c.in-New.arguments in
     let count = c.len.ensures ∙ c.in-New.arguments.ok.0 ∙ sym (count_is c.in-New.arguments.items) in
-    ok_gives c.put-in-New.result (c.put-in-New.new.code.items ≡ c.expressions.new.code.items ++ i.New c.in-New.class c.len.result ∷ []) (c.put-in-New.new.code.items ≡ c.args.code.now.items ++ expr_code (view_expr c.args.expr.now) (length c.args.code.now.items)) (λ h. new_emitted base _ _ (expr_list (map view_expr c.in-New.arguments.items)) (expr_list (map view_expr c.deref-in-New.result.now)) c.in-New.class c.len.result (ap (λ z. expr_list (map view_expr z)) c.deref-in-New.ensures.value) count c.in_ok-expressions-in-New.ensures h ∙ ap (λ z. base ++ expr_code z (length base)) (sym same)) c.put-in-New.ensures
+    ok_gives c.put-in-New.result (c.put-in-New.new.code.items ≡ c.expressions.new.code.items ++ i.New c.in-New.class c.len.result ∷ []) (c.put-in-New.new.code.items ≡ c.args.code.now.items ++ expr_code (view_expr c.args.expr.now) (length c.args.code.now.items)) (λ h. new_emitted base _ _ (expr_list (map view_expr c.in-New.arguments.items)) (expr_list (map view_expr c.deref-in-New.result.now)) c.in-New.class c.len.result (ap (λ z. expr_list (map view_expr z)) c.deref-in-New.ensures.value) count c.in_ok-expressions-in-New.ensures h ∙ ap (λ z. base ++ expr_code z (length base)) (sym same)) c.put-in-New.ensures.added
 
 pub expression-returns-in_ok-method_call-in-Calls : goal.expression-returns-in_ok-method_call-in-Calls
 expression-returns-in_ok-method_call-in-Calls t c =

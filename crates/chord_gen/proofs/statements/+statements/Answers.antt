@@ -30,7 +30,7 @@ pub statement-returns-in_ok-expression-in-Do : goal.statement-returns-in_ok-expr
 statement-returns-in_ok-expression-in-Do t c =
     let base = c.args.code.now.items in
     ok_gives c.put-in-Do.result (c.put-in-Do.new.code.items ≡ c.expression-in-Do.new.code.items ++ i.Drop ∷ []) (c.put-in-Do.new.code.items ≡ base ++ stmt_code c.args.builder (view_stmt c.args.stmt.now) (length base))
-    (λ h. one_more_emitted base c.expression-in-Do.new.code.items c.put-in-Do.new.code.items (expr_code (view_expr c.in-Do.value) (length base)) (i.Drop) c.in_ok-expression-in-Do.ensures h ∙ ap (λ z. base ++ stmt_code c.args.builder z (length base)) (sym (ap view_stmt c.in-Do.is ∙ viewed_do c.in-Do.value))) c.put-in-Do.ensures
+    (λ h. one_more_emitted base c.expression-in-Do.new.code.items c.put-in-Do.new.code.items (expr_code (view_expr c.in-Do.value) (length base)) (i.Drop) c.in_ok-expression-in-Do.ensures h ∙ ap (λ z. base ++ stmt_code c.args.builder z (length base)) (sym (ap view_stmt c.in-Do.is ∙ viewed_do c.in-Do.value))) c.put-in-Do.ensures.added
 
 pub statement-expression-requires-in-Print : goal.statement-expression-requires-in-Print
 statement-expression-requires-in-Print t c =
@@ -40,7 +40,7 @@ pub statement-returns-in_ok-expression-in-Print : goal.statement-returns-in_ok-e
 statement-returns-in_ok-expression-in-Print t c =
     let base = c.args.code.now.items in
     ok_gives c.put-in-Print.result (c.put-in-Print.new.code.items ≡ c.expression-in-Print.new.code.items ++ i.Print ∷ []) (c.put-in-Print.new.code.items ≡ base ++ stmt_code c.args.builder (view_stmt c.args.stmt.now) (length base))
-    (λ h. one_more_emitted base c.expression-in-Print.new.code.items c.put-in-Print.new.code.items (expr_code (view_expr c.in-Print.value) (length base)) (i.Print) c.in_ok-expression-in-Print.ensures h ∙ ap (λ z. base ++ stmt_code c.args.builder z (length base)) (sym (ap view_stmt c.in-Print.is ∙ viewed_print c.in-Print.value))) c.put-in-Print.ensures
+    (λ h. one_more_emitted base c.expression-in-Print.new.code.items c.put-in-Print.new.code.items (expr_code (view_expr c.in-Print.value) (length base)) (i.Print) c.in_ok-expression-in-Print.ensures h ∙ ap (λ z. base ++ stmt_code c.args.builder z (length base)) (sym (ap view_stmt c.in-Print.is ∙ viewed_print c.in-Print.value))) c.put-in-Print.ensures.added
 
 pub statement-expression-requires-in-Give : goal.statement-expression-requires-in-Give
 statement-expression-requires-in-Give t c =
@@ -50,7 +50,7 @@ pub statement-returns-in_ok-expression-in-Give : goal.statement-returns-in_ok-ex
 statement-returns-in_ok-expression-in-Give t c =
     let base = c.args.code.now.items in
     ok_gives c.put-in-Give.result (c.put-in-Give.new.code.items ≡ c.expression-in-Give.new.code.items ++ i.Endv ∷ []) (c.put-in-Give.new.code.items ≡ base ++ stmt_code c.args.builder (view_stmt c.args.stmt.now) (length base))
-    (λ h. one_more_emitted base c.expression-in-Give.new.code.items c.put-in-Give.new.code.items (expr_code (view_expr c.in-Give.value) (length base)) (i.Endv) c.in_ok-expression-in-Give.ensures h ∙ ap (λ z. base ++ stmt_code c.args.builder z (length base)) (sym (ap view_stmt c.in-Give.is ∙ viewed_give c.in-Give.value))) c.put-in-Give.ensures
+    (λ h. one_more_emitted base c.expression-in-Give.new.code.items c.put-in-Give.new.code.items (expr_code (view_expr c.in-Give.value) (length base)) (i.Endv) c.in_ok-expression-in-Give.ensures h ∙ ap (λ z. base ++ stmt_code c.args.builder z (length base)) (sym (ap view_stmt c.in-Give.is ∙ viewed_give c.in-Give.value))) c.put-in-Give.ensures.added
 
 pub statement-expression-requires-in-Send : goal.statement-expression-requires-in-Send
 statement-expression-requires-in-Send t c =
@@ -78,7 +78,7 @@ statement-returns-in_ok-expressions-in-Send t c =
     let count = c.len.ensures ∙ c.in-Send.arguments.ok.0 ∙ sym (count_is c.in-Send.arguments.items) in
     ok_gives c.put-in-Send.result (c.put-in-Send.new.code.items ≡ c.expressions.new.code.items ++ i.Send c.in-Send.method c.len.result ∷ []) (c.put-in-Send.new.code.items ≡ base ++ stmt_code c.args.builder (view_stmt c.args.stmt.now) (length base))
     (λ h. send_emitted base c.expression-in-Send.new.code.items c.expressions.new.code.items c.put-in-Send.new.code.items (view_expr c.in-Send.receiver) (expr_list (map view_expr c.in-Send.arguments.items)) (expr_list (map view_expr c.deref.result.now)) c.in-Send.class c.in-Send.method c.len.result c.args.builder (ap (λ z. expr_list (map view_expr z)) c.deref.ensures.value) count c.in_ok-expression-in-Send.ensures c.in_ok-expressions-in-Send.ensures h
-    ∙ ap (λ z. base ++ stmt_code c.args.builder z (length base)) (sym (ap view_stmt c.in-Send.is ∙ viewed_send c.in-Send.receiver c.in-Send.class c.in-Send.method c.in-Send.arguments))) c.put-in-Send.ensures
+    ∙ ap (λ z. base ++ stmt_code c.args.builder z (length base)) (sym (ap view_stmt c.in-Send.is ∙ viewed_send c.in-Send.receiver c.in-Send.class c.in-Send.method c.in-Send.arguments))) c.put-in-Send.ensures.added
 
 pub statement-if_then-requires : goal.statement-if_then-requires
 statement-if_then-requires t c =
@@ -116,7 +116,7 @@ pub statement-returns-in-Return : goal.statement-returns-in-Return
 statement-returns-in-Return t c =
     let base = c.args.code.now.items in
     ok_gives c.put-in-Return.result (c.put-in-Return.new.code.items ≡ base ++ c.return_instruction.result ∷ []) (c.put-in-Return.new.code.items ≡ base ++ stmt_code c.args.builder (view_stmt c.args.stmt.now) (length base))
-    (λ h. h ∙ ap (λ x. base ++ x ∷ []) c.return_instruction.ensures ∙ ap (λ z. base ++ stmt_code c.args.builder z (length base)) (sym (ap view_stmt c.in-Return.is ∙ viewed_return))) c.put-in-Return.ensures
+    (λ h. h ∙ ap (λ x. base ++ x ∷ []) c.return_instruction.ensures ∙ ap (λ z. base ++ stmt_code c.args.builder z (length base)) (sym (ap view_stmt c.in-Return.is ∙ viewed_return))) c.put-in-Return.ensures.added
 
 pub statement-statements-requires : goal.statement-statements-requires
 statement-statements-requires t c =
