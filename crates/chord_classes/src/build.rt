@@ -1,7 +1,7 @@
 //! The table of a program, class by class in the order of the text.
 #![tactic(auto)]
 
-ghost use Rattle.std.specs.Prelude.{◌≡◌, [], ◌∷◌, ◌++◌, map, flat_map, IfOk, option_map, is_some, ◌||◌};
+ghost use Rattle.std.specs.Prelude.{◌≡◌, [], ◌∷◌, ◌++◌, map, flat_map, IfOk, OnErr, option_map, is_some, ◌||◌, false};
 ghost use Rattle.chord_tree.specs.View.{tree_of, see_class, see_header, see_member};
 ghost use Rattle.chord_tree.specs.Walk.{headers_of, member_headers};
 ghost use Rattle.chord_classes.specs.Table.{is_main, method_named, inherited, first_builder, shape_of, table_of};
@@ -77,7 +77,7 @@ fn with_headers<'a>(
     Ok(own)
 }
 
-/// The methods, and the one that a header adds, if none of them has its name.
+/// The methods, and the one that a header adds, if none of them has its name. Without memory it was to add one.
 fn with_header<'a>(
     table: &Table<'a>,
     base: Option<u32>,
@@ -85,7 +85,8 @@ fn with_header<'a>(
     own: Methods<'a>,
     header: &'a Header,
 ) -> Result<Methods<'a>, AllocError>
-    ensures { IfOk result (λ more. IsGrown (inherited table.now base) owner (see_header header.now ∷ []) own.entry.all.items more.all.items) }
+    ensures added { IfOk result (λ more. IsGrown (inherited table.now base) owner (see_header header.now ∷ []) own.entry.all.items more.all.items) }
+    ensures lacks { OnErr result ((is_main (see_header header.now) || is_some (method_named (inherited table.now base ++ map see_method own.entry.all.items) header.now.name.text)) ≡ false) }
 {
     if adds_none(table, base, &own, header) {
         Ok(own)

@@ -6,6 +6,7 @@
 
 pub mod build;
 pub mod entry;
+pub mod growth;
 mod index;
 pub mod laws;
 pub mod least;

@@ -1,10 +1,12 @@
 //! The methods that are new in a class, by their places and by their names.
 #![tactic(auto)]
 
-ghost use Rattle.std.specs.Prelude.{◌≡◌, IfOk, [], ◌∷◌, ◌++◌, map, option_map, slice_get};
+ghost use Rattle.std.specs.Prelude.{◌≡◌, IfOk, [], ◌∷◌, ◌++◌, map, option_map, slice_get, vec_len, vec_capacity};
+ghost use Rattle.chord_base.specs.Room.{HasGrown};
 ghost use Rattle.chord_classes.specs.Table.{method_named};
 ghost use Rattle.chord_classes.specs.MethodViews.{see_method, see_own, names_of};
 
+use crate::growth::add_one;
 use crate::method::{Method, OwnMethod};
 use crate::names::Names;
 use std::alloc::{AllocError, Global};
@@ -44,11 +46,12 @@ impl<'a> Methods<'a> {
 
     /// These methods, and one after them.
     pub fn with(self, method: Method<'a>) -> Result<Methods<'a>, AllocError>
-        ensures { IfOk result (λ methods. methods.all.items ≡ self.entry.all.items ++ (method.entry ∷ [])) }
+        ensures added { IfOk result (λ methods. methods.all.items ≡ self.entry.all.items ++ (method.entry ∷ [])) }
+        ensures grown { IfOk result (λ methods. HasGrown (vec_len self.entry.all) (vec_capacity self.entry.all) (vec_capacity methods.all)) }
     {
         let Methods { names, mut all } = self;
         let names = names.with(method.header.name.text.items())?;
-        all.push(method)?;
+        add_one(&mut all, method)?;
         Ok(Methods { names, all })
     }
 }

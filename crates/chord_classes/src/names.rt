@@ -4,6 +4,7 @@
 ghost use Rattle.std.specs.Prelude.{◌≡◌, IfOk, [], ◌∷◌, ◌++◌, length};
 ghost use Rattle.chord_classes.specs.NamePlaces.{name_place};
 
+use crate::growth::add_one;
 use std::alloc::{AllocError, Global};
 use std::collections::BTreeMap;
 use std::marker::Model;
@@ -59,7 +60,7 @@ impl<'a> Names<'a> {
         if self.places.get(name).is_none() {
             self.places.insert(name, number)?;
         }
-        self.all.push(name)?;
+        add_one(&mut self.all, name)?;
         Ok(self)
     }
 }

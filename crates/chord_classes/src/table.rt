@@ -15,6 +15,7 @@ ghost use Rattle.chord_classes.specs.Entries.{IsGrown};
 ghost use Rattle.chord_classes.specs.Owned.{line_at, owned_at};
 
 use crate::entry::Entry;
+use crate::growth::add_one;
 use crate::index::{Index, Indexed};
 use crate::method::{Builder, Found};
 use crate::methods::Methods;
@@ -172,7 +173,7 @@ impl<'a> Table<'a> {
             owned,
             &own.all,
         )?;
-        entries.push(Entry {
+        let entry = Entry {
             class,
             base,
             first,
@@ -180,7 +181,8 @@ impl<'a> Table<'a> {
             builder,
             line: Some(line),
             owned,
-        })?;
+        };
+        add_one(&mut entries, entry)?;
         Ok(Table { entries, index })
     }
 

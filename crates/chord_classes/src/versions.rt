@@ -5,6 +5,7 @@
 ghost use Rattle.std.specs.Prelude.{◌≡◌, ◌<◌, [], IfOk, length, ◌%◌, ◌/◌};
 ghost use Rattle.chord_classes.specs.Forks.{AreForks, IsVersion, IsNextVersion, IsFork, side, fork_of, under, with_side};
 
+use crate::growth::add_one;
 use crate::numbers::narrow;
 use std::alloc::{AllocError, Global};
 use std::marker::Model;
@@ -132,7 +133,7 @@ impl Versions {
         ensures { IfOk result (λ made. IsFork self.old self.new fork made) }
     {
         let made = narrow(self.forks.len())?;
-        self.forks.push(fork)?;
+        add_one(&mut self.forks, fork)?;
         Ok(made)
     }
 }

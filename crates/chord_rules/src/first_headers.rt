@@ -1,13 +1,15 @@
 //! The headers of a class, and the first of each name.
 #![tactic(auto)]
 
-ghost use Rattle.std.specs.Prelude.{◌≡◌, IfOk, [], ◌∷◌, ◌++◌, map, flat_map, option_map, slice_get};
+ghost use Rattle.std.specs.Prelude.{◌≡◌, IfOk, [], ◌∷◌, ◌++◌, map, flat_map, option_map, slice_get, vec_len, vec_capacity};
+ghost use Rattle.chord_base.specs.Room.{HasGrown};
 ghost use Rattle.chord_tree.specs.View.{see_header, see_member};
 ghost use Rattle.chord_tree.specs.Walk.{member_headers};
 ghost use Rattle.chord_classes.specs.OverrideRules.{first_named};
 ghost use Rattle.chord_rules.specs.FirstHeaders.{see_lent, names_of_headers};
 
 use chord_classes::build::headers_of;
+use chord_classes::growth::add_one;
 use chord_classes::names::Names;
 use chord_tree::classes::{Header, Member};
 use std::alloc::{AllocError, Global};
@@ -44,11 +46,12 @@ impl<'a> FirstHeaders<'a> {
 
     /// These headers, and one after them.
     fn with(self, header: &'a Header) -> Result<FirstHeaders<'a>, AllocError>
-        ensures { IfOk result (λ headers. map see_lent headers.all.items ≡ map see_lent self.entry.all.items ++ (see_header header.now ∷ [])) }
+        ensures added { IfOk result (λ headers. map see_lent headers.all.items ≡ map see_lent self.entry.all.items ++ (see_header header.now ∷ [])) }
+        ensures grown { IfOk result (λ headers. HasGrown (vec_len self.entry.all) (vec_capacity self.entry.all) (vec_capacity headers.all)) }
     {
         let FirstHeaders { names, mut all } = self;
         let names = names.with(header.name.text.items())?;
-        all.push(header)?;
+        add_one(&mut all, header)?;
         Ok(FirstHeaders { names, all })
     }
 }

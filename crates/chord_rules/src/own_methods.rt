@@ -1,10 +1,11 @@
 //! The methods that are new in a class, and the limit on the methods of a class.
 #![tactic(auto)]
 
-ghost use Rattle.std.specs.Prelude.{◌≡◌, ◌-◌, [], ◌∷◌, length, map, flat_map, drop, IfOk, OnOk};
+ghost use Rattle.std.specs.Prelude.{◌≡◌, ◌-◌, [], ◌∷◌, ◌++◌, ◌||◌, false, length, map, flat_map, drop, is_some, IfOk, OnOk, OnErr};
 ghost use Rattle.chord_tree.specs.View.{see_header, see_member};
 ghost use Rattle.chord_tree.specs.Walk.{member_headers};
-ghost use Rattle.chord_classes.specs.Table.{inherited};
+ghost use Rattle.chord_classes.specs.Table.{inherited, is_main, method_named};
+ghost use Rattle.chord_classes.specs.MethodViews.{see_method};
 ghost use Rattle.chord_classes.specs.ChordRules.{header_tokens, new_headers};
 ghost use Rattle.chord_classes.specs.Entries.{IsGrown};
 ghost use Rattle.chord_classes.specs.Least.{least, keys};
@@ -84,7 +85,7 @@ fn with_headers<'a>(
     Ok(grown)
 }
 
-/// The methods, and the one that a header adds, if none of them has its name.
+/// The methods, and the one that a header adds, if none of them has its name. Without memory it was to add one.
 fn with_header<'a>(
     table: &Table<'a>,
     base: Option<u32>,
@@ -93,7 +94,8 @@ fn with_header<'a>(
     header: &'a Header,
     breaks: &mut Least,
 ) -> Result<Grown<'a>, AllocError>
-    ensures { IfOk result (λ more. IsCounted (inherited table.now base) owner (see_header header.now ∷ []) grown.entry more breaks.old.found breaks.new.found) }
+    ensures counted { IfOk result (λ more. IsCounted (inherited table.now base) owner (see_header header.now ∷ []) grown.entry more breaks.old.found breaks.new.found) }
+    ensures lacks { OnErr result ((is_main (see_header header.now) || is_some (method_named (inherited table.now base ++ map see_method grown.entry.own.all.items) header.now.name.text)) ≡ false) }
 {
     if adds_none(table, base, &grown.own, header) {
         return Ok(grown);

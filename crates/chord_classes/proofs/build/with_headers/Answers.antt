@@ -11,4 +11,4 @@ loop-header-preserved c = λ after more.
     c.loop-header.invariant after
     (subst (λ hs. IsGrown (inherited c.args.table.now c.args.base) c.args.owner (map see_header hs) c.loop-header.own.all.items after)
     (sym (item_here c.args.headers.now c.loop-header.header-index c.header-item.result c.loop-header-test.true c.header-item.is))
-    (grown_on c.in_ok-own.ensures more))
+    (grown_on c.in_ok-own.ensures.added more))

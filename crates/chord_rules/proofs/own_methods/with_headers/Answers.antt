@@ -11,7 +11,7 @@ loop-header-preserved c = λ after p more.
     c.loop-header.invariant after p
     (subst (λ hs. IsCounted (inherited c.args.table.now c.args.base) c.args.owner (map see_header hs) c.loop-header.grown after c.loop-header.breaks.found p)
     (sym (item_here c.args.headers.now c.loop-header.header-index c.header-item.result c.loop-header-test.true c.header-item.is))
-    (counted_over c.in_ok-grown.ensures more))
+    (counted_over c.in_ok-grown.ensures.counted more))
 
 pub returns : goal.returns
 returns c = c.loop-header.invariant c.loop-header.grown c.loop-header.breaks.found

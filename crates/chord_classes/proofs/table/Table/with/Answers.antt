@@ -27,7 +27,7 @@ invariant_of-result c =
     let old = c.self.inside.index in
     let new = c.in_ok-index.field-0 in
     let number : c.len-number.result ≡ length entries.items = (let few = entries.ok.0 in omega (arith, few, c.len-number.ensures)) in
-    table_extended c.args.self entries.items c.push.new.self.items old.names new.index.names old.lines new.index.lines old.owners new.index.owners _ c.items.result.now new.line c.len-number.result
+    table_extended c.args.self entries.items c.add_one.new.list.items old.names new.index.names old.lines new.index.lines old.owners new.index.owners _ c.items.result.now new.line c.len-number.result
     c.self.view_is c.self.invariant
     (let few = entries.ok.0 in omega (arith, few, c.len.ensures, c.in_ok-check_room.ensures.fit.0))
     (record {
@@ -37,7 +37,7 @@ invariant_of-result c =
       fits = (let own = c.args.own.all.ok.0 in omega (arith, own, c.len-2.ensures, c.in_ok-check_room.ensures.fit.1));
       builder = c.requires.builder;
     })
-    c.in_ok-push.ensures.items c.in_ok-index.ensures.names c.items.ensures.bytes refl
+    c.in_ok-add_one.ensures.items c.in_ok-index.ensures.names c.items.ensures.bytes refl
     (subst (λ z. IsNextVersion old.lines new.index.lines z (length entries.items) c.len-number.result new.line) (c.line_at-line.ensures ∙ ap (λ z. line_at z c.args.base) c.deref.ensures.value)
     (subst (λ z. IsNextVersion old.lines new.index.lines c.line_at-line.result z c.len-number.result new.line) number c.in_ok-index.ensures.line))
     (subst (λ z. IsOwning old.owners new.index.owners z new.owned (λ name. is_some (method_named (map see_method c.args.own.all.items) name)) (length entries.items)) (c.owned_at-owned.ensures ∙ ap (λ z. owned_at z c.args.base) c.deref-2.ensures.value)
@@ -46,4 +46,4 @@ invariant_of-result c =
     (subst (λ z. AddsNames old.owners new.index.owners (names_of z)) c.deref-3.ensures.value c.in_ok-index.ensures.added)
 
 pub returns : goal.returns
-returns c = ap shapes_of c.in_ok-push.ensures.items ∙ shapes_more c.self.inside.entries.items _ ∙ ap (λ z. z ++ (shape_of z (see_class c.args.class.now) ∷ [])) c.self.view_is
+returns c = ap shapes_of c.in_ok-add_one.ensures.items ∙ shapes_more c.self.inside.entries.items _ ∙ ap (λ z. z ++ (shape_of z (see_class c.args.class.now) ∷ [])) c.self.view_is
