@@ -1,7 +1,7 @@
 //! Lists that grow by one item.
 #![tactic(auto)]
 
-ghost use Rattle.std.specs.Prelude.{◌≡◌, [], ◌∷◌, ◌++◌, OnOk, is_ok, vec_len, vec_capacity};
+ghost use Rattle.std.specs.Prelude.{◌≡◌, [], ◌∷◌, ◌++◌, OnOk, is_ok, if◌then◌else◌, vec_len, vec_capacity};
 ghost use Rattle.chord_base.specs.Room.{HasGrown};
 
 use chord_base::room::reserve_one;
