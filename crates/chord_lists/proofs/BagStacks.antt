@@ -1,5 +1,5 @@
 -- The stacks of the bag: what changes where a list is added, or one is set.
-use Rattle.std.proofs.Common.{◌≡◌, ℕ, zero, suc, ◌+◌, ◌<◌, ◌≤◌, true, false, ◌==◌, ◌&&◌, List, [], ◌∷◌, ◌++◌, length, reverse, get_or, set, Some, refl, sym, ap, ◌∙◌, arith, inl, inr, if◌then◌else◌}
+use Rattle.std.proofs.Common.{◌≡◌, ℕ, zero, suc, ◌+◌, ◌<◌, ◌≤◌, true, false, ◌==◌, ◌&&◌, List, [], ◌∷◌, ◌++◌, length, reverse, get_or, set, Some, refl, sym, ap, ◌∙◌, subst, arith, inl, inr, if◌then◌else◌}
 use Rattle.std.specs.Prelude.{slice_get}
 use Rattle.std.specs.Global.{Vec}
 use Rattle.std.proofs.lemmas.Bool.{eq-eqb, eqb-true, eqb-false, ne_eqb}
@@ -7,7 +7,7 @@ use Rattle.std.proofs.lemmas.List.{length-reverse, reverse-append}
 use Rattle.std.proofs.lemmas.Option.{get_or_from_slice_get}
 use Rattle.chord_base.proofs.Waits.{either}
 use Rattle.chord_lists.specs.declared.bag.ClassStacks.{ClassStacks}
-use Rattle.chord_lists.specs.Bag.{items_at, stacked_at, numbers_in, LacksBefore, IsFirstOf}
+use Rattle.chord_lists.specs.Bag.{items_at, stacked_at, numbers_in, LacksBefore, IsFirstOf, AddsClass}
 
 -- one more empty list adds no items
 pub items_more : {A : Type 0} (vs : List (Vec A)) (v : Vec A) (i : ℕ) → v.items ≡ [] → items_at (vs ++ v ∷ []) i ≡ items_at vs i
@@ -190,6 +190,14 @@ object_noted old lists r w o c m n l same value p b d j =
           rw q (p d j ∙ ap (λ (z : List ClassStacks). if (c == d) && (m == j) then n ∷ numbers_in z d j else numbers_in z d j) there))
       | inr q ↦ rw q (ap (λ z. numbers_in z d j) (same b))
     ]
+
+-- an object has as many stacks as before where some were of the class, and one more where none were
+pub object_classes : (old lists : List (Vec ClassStacks)) (r w : Vec ClassStacks) (o c : ℕ) → o < length lists → ((i : ℕ) → items_at lists i ≡ items_at old i) → r ≡ get_or lists o r → AddsClass c r.items w.items → AddsClass c (items_at old o) (items_at (set lists o w) o)
+object_classes old lists r w o c l same value adds =
+    let there : r.items ≡ items_at old o = items_of lists r o l value ∙ same o in
+    let this : (o == o) ≡ true = eq-eqb o o refl in
+    let after : items_at (set lists o w) o ≡ w.items = items_set lists w o o l ∙ rw this refl in
+    subst (λ (z : List ClassStacks). AddsClass c z (items_at (set lists o w) o)) there (subst (λ (z : List ClassStacks). AddsClass c r.items z) (sym after) adds)
 
 -- ---- numbers go
 

@@ -1,7 +1,7 @@
 //! The bag: the numbers of the messages that no firing has taken, by what they are to.
 #![tactic(auto)]
 
-ghost use Rattle.std.specs.Prelude.{◌≡◌, ◌≢◌, Some, None, ℕ, ◌+◌, ◌≤◌, ◌==◌, ◌&&◌, max, List, [], ◌∷◌, length, reverse, vec_len, IfNone, IfSome, IsOk, OnOk, true, false, if◌then◌else◌};
+ghost use Rattle.std.specs.Prelude.{◌≡◌, ◌≢◌, Some, None, ℕ, ◌+◌, ◌≤◌, ◌==◌, ◌&&◌, max, List, [], ◌∷◌, length, reverse, vec_len, vec_capacity, IfNone, IfSome, IsOk, OnOk, true, false, if◌then◌else◌};
 ghost use Rattle.chord_base.specs.Messages.{AreDifferent};
 ghost use Rattle.chord_lists.specs.Bag.{Address, AddsClass, ArePopped, HasMessage, HasMessages, IsFirstOf, IsPopped, IsPushed, LacksAMessage, LacksBefore, LacksMessage, address_to, items_at, is_apart, numbers_in, numbers_of, older_of, stacked_at, stacked_by};
 ghost use Rattle.chord_lists.specs.declared.bag.Noted.{Noted as ANoted};
@@ -151,6 +151,7 @@ fn note_on(
 ) -> Result<(), AllocError>
     ensures pushed { OnOk result (IsPushed (address_to noted.now.object noted.now.method) noted.now.number (stacked_by objects.old.items) (stacked_by objects.new.items)) }
     ensures long { OnOk result (vec_len objects.new ≡ max (vec_len objects.old) (noted.now.object.number + 1)) }
+    ensures class { OnOk result (AddsClass noted.now.object.class (items_at objects.old.items noted.now.object.number) (items_at objects.new.items noted.now.object.number)) }
 {
     let place = noted.object.number as usize;
     lengthen(alloc, objects, place + 1)?;
@@ -246,9 +247,10 @@ impl Older {
 }
 
 impl Bag {
-    /// The bag before any entry.
+    /// The bag before any entry. No message stands apart, there is no list of an object, and no memory is taken for any.
     pub fn new(alloc: Global) -> Bag
-        ensures { (k : Address) → numbers_of result k ≡ [] }
+        ensures empty { (k : Address) → numbers_of result k ≡ [] }
+        ensures bare { (result.newest ≡ None) × (result.older.last ≡ None) × (vec_len result.older.objects ≡ 0) × (vec_capacity result.older.objects ≡ 0) }
     {
         Bag {
             newest: None,

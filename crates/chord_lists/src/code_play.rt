@@ -23,7 +23,8 @@ pub struct CodePlay<'a> {
 }
 
 impl<'a> CodePlay<'a> {
-    ghost use Rattle.std.specs.Prelude.{◌≡◌, ◌<◌, ◌++◌, ◌∷◌, [], length, reverse, slice_get, Some, IfOk, OnOk};
+    ghost use Rattle.std.specs.Prelude.{◌≡◌, ◌≢◌, ◌<◌, ◌++◌, ◌∷◌, [], length, reverse, slice_get, Some, None, IfOk, OnOk};
+    ghost use Rattle.chord_base.specs.Bodies.{served};
     ghost use Rattle.chord_base.specs.Story.{IsOwn};
     ghost use Rattle.chord_code.specs.Meaning.{code_program};
     ghost use Rattle.chord_lists.specs.CodeStands.{StandsAfter, MayReplay, Replayed, HasTurnedAt, IsCut, BeginsABody, KeepsOthers, home, topped_by, with_over};
@@ -53,6 +54,7 @@ impl<'a> CodePlay<'a> {
         ensures turned { OnOk result (IsOwn entry.now.what → HasTurnedAt self.now.code.now self.now.limits.now bodies.old.tasks.items bodies.new.tasks.items (home bodies.old.homes.items entry.now.body) entry.now.number) }
         ensures topped { OnOk result (BeginsABody entry.now.what → reverse bodies.new.ready.items ≡ topped_by (home bodies.new.homes.items entry.now.number) (reverse bodies.old.ready.items)) }
         ensures left { OnOk result (BeginsABody entry.now.what → IsCut bodies.old.over.items bodies.new.over.items) }
+        ensures kept { OnOk result (BeginsABody entry.now.what → served (code_program self.now.code.now self.now.limits.now) entry.now.what ≢ None → bodies.new.over.items ≡ bodies.old.over.items) }
         ensures others { OnOk result (BeginsABody entry.now.what → KeepsOthers bodies.old.tasks.items bodies.new.tasks.items (home bodies.new.homes.items entry.now.number)) }
         ensures tasks { OnOk result (IsOwn entry.now.what → length bodies.new.tasks.items ≡ length bodies.old.tasks.items) }
     {

@@ -1,7 +1,7 @@
 //! A turn of a task: its next ask becomes an entry.
 #![tactic(auto)]
 
-ghost use Rattle.std.specs.Prelude.{◌≡◌, ◌≢◌, ℕ, List, ◌<◌, ◌≤◌, ◌++◌, ◌∷◌, [], IfOk, OnOk, IsOk, None, Some, true, length, vec_len, vec_capacity};
+ghost use Rattle.std.specs.Prelude.{◌≡◌, ◌≢◌, ℕ, List, ◌<◌, ◌≤◌, ◌++◌, ◌∷◌, [], IfOk, OnOk, IsOk, IsSomeAnd, None, Some, true, length, vec_len, vec_capacity};
 ghost use Rattle.chord_base.specs.declared.event.End.{End as AnEnd};
 ghost use Rattle.chord_base.specs.Room.{HasGrown};
 ghost use Rattle.chord_code.specs.Meaning.{code_program};
@@ -381,6 +381,7 @@ impl Task {
     /// Makes room for the entry of an ask that is with its caller, and for a firing after it, and takes a copy of the text that an end gives, for the body below.
     /// So whoever draws the entry's number after that can settle it, whatever memory there is then: copies of other ends never fail, so they wait until the
     /// number is drawn. Nothing else of the task changes, and nothing of the list.
+    /// A list of values that is made has room for those of one entry.
     #[inline(always)]
     pub fn make_room(
         &mut self,
@@ -400,6 +401,7 @@ impl Task {
         ensures kept { LosesNothing code.now self.old self.new }
         ensures entries { vec_len list.old < vec_capacity list.old → list.new ≡ list.old }
         ensures grown { OnOk result (HasGrown (vec_len list.old) (vec_capacity list.old) (vec_capacity list.new)) }
+        ensures lean { OnOk result (self.old.values ≡ None → IsSomeAnd self.new.values (λ list. vec_capacity list ≡ 64)) }
     {
         self.take_room(alloc, code, list)?;
         copy_text(alloc, asked, second)

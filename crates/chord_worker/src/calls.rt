@@ -1,5 +1,5 @@
 //! The calls of a worker that the pool makes, but for its steps.
-ghost use Rattle.std.specs.Prelude.{◌≡◌, ◌≢◌, ◌||◌, ℕ, ◌<◌, ◌-◌, [], ◌∷◌, ◌++◌, Option, true, false, Some, None, OnOk, IfOk, min, is_some, flat_map, reverse, IsPermutation, Vec};
+ghost use Rattle.std.specs.Prelude.{◌≡◌, ◌≢◌, ◌||◌, ℕ, ◌<◌, ◌-◌, [], ◌∷◌, ◌++◌, Option, true, false, Some, None, OnOk, IfOk, min, is_some, flat_map, reverse, vec_capacity, IsPermutation, Vec};
 ghost use Rattle.std.specs.Global.{Global};
 ghost use Rattle.chord_base.specs.declared.event.Entry.{Entry};
 ghost use Rattle.chord_base.specs.Story.{IsSound};
@@ -82,7 +82,7 @@ impl Worker {
     }
 
     /// A worker with a desk of its own, which this one lends: it has nothing to play and nothing in stock, has drawn nothing and
-    /// taken nobody in.
+    /// taken nobody in. Its lists have no room yet: no memory is taken for a worker that may draw nothing.
     pub fn hired(&mut self, alloc: Global, space: &Space<Parcel>) -> Worker
         requires rest { IsAtRest space.now self.old }
         requires first { ((view self.old.desk).first ≡ true) × ((view self.old.desk).splits < 65535) }
@@ -92,6 +92,7 @@ impl Worker {
         ensures undrawn { (view result.desk).draws ≡ [] }
         ensures empty { result.spare ≡ None }
         ensures nothing_taken { result.taken.items ≡ [] }
+        ensures lean { (vec_capacity result.draws ≡ 0) × (vec_capacity result.taken ≡ 0) }
     {
         Worker {
             desk: space.split(&mut self.desk),

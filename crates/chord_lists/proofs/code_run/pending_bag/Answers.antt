@@ -9,7 +9,7 @@ use Rattle.chord_lists.proofs.Going.{number_at, lists_early, lists_next, lists_a
 use Rattle.chord_lists.proofs.code_run.pending_bag.Goals as goal
 
 pub loop-i-init : goal.loop-i-init
-loop-i-init c = (lists_early _ (λ i. pending i (reverse c.args.entries.now)) c.new-bag.ensures, omega arith)
+loop-i-init c = (lists_early _ (λ i. pending i (reverse c.args.entries.now)) c.new-bag.ensures.empty, omega arith)
 
 pub note_left-requires : goal.note_left-requires
 note_left-requires c =

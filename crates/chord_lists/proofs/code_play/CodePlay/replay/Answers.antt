@@ -1,4 +1,11 @@
-use Rattle.std.proofs.Common.{◌∷◌, subst}
+use Rattle.std.proofs.Common.{◌≡◌, ℕ, List, ◌∷◌, Option, Some, ap, ◌∙◌, subst}
+use Rattle.std.specs.Prelude.{slice_get}
+use Rattle.chord_base.specs.declared.value.Object.{Object}
+use Rattle.chord_base.specs.declared.value.Value.{Value}
+use Rattle.chord_base.specs.declared.event.What.{What}
+use Rattle.chord_base.specs.declared.event.What.TheVariants.{Fired}
+use Rattle.chord_base.specs.Meaning.{Program}
+use Rattle.chord_base.specs.Bodies.{served_among, or_none, served}
 use Rattle.chord_base.specs.Story.{IsOwn}
 use Rattle.chord_code.specs.Meaning.{code_program}
 use Rattle.chord_lists.specs.CodeStands.{StandsAfter}
@@ -44,3 +51,13 @@ returns-in_ok-begin-in-Fired-clause-left c = λ first. c.in_ok-begin-in-Fired.en
 
 pub returns-in_ok-begin-in-Fired-clause-others : goal.returns-in_ok-begin-in-Fired-clause-others
 returns-in_ok-begin-in-Fired-clause-others c = λ first. c.in_ok-begin-in-Fired.ensures.others
+
+-- a firing serves the call that its members give at the methods of its chord
+served_at : (p : Program) (w : What) (k : ℕ) (o : Object) (ms js : List ℕ) (vs : List Value) → w ≡ Fired k o ms vs → slice_get (p.chords o.class) k ≡ Some js → served p w ≡ served_among (p.is_sync o.class) js ms
+served_at p w k o ms js vs is there = ap (served p) is ∙ ap (λ (z : Option (List ℕ)). served_among (p.is_sync o.class) (or_none z) ms) there
+
+pub returns-in_ok-begin-in-Fired-clause-kept : goal.returns-in_ok-begin-in-Fired-clause-kept
+returns-in_ok-begin-in-Fired-clause-kept c = λ first some.
+    let p = code_program c.args.self.now.code.now c.args.self.now.limits.now in
+    let is = served_at p c.args.entry.now.what c.in-Fired.chord c.in-Fired.object c.in-Fired.members c.methods-methods.result.now c.in-Fired.field-3 c.in-Fired.is c.methods-methods.ensures in
+    (rw c.copied-members.ensures at c.in_ok-begin-in-Fired.ensures.kept) (λ none. some (is ∙ none))
