@@ -83,13 +83,13 @@ module _ (own : Own) (jss : List (List ℕ)) (a : List (Option Sought)) (beside 
 
   -- where no bag is busy, what is stuck is so by a bare one
   not_busy : (js : List ℕ) → ((j i : ℕ) → has j js ≡ true → slice_index_or a j None ≢ Some (Busy i)) → (b : Option ℕ) → IsStuck own js a b → IsStuck own js a None
-  not_busy js no None t = t
-  not_busy js no (Some i) t = absurd (no t.0 i t.1 t.2.1)
+  not_busy js never None t = t
+  not_busy js never (Some i) t = absurd (never t.0 i t.1 t.2.1)
 
   -- a chord that nothing holds up is stuck by a bare bag
   held_by_none : (js : List ℕ) → IsHolder js a None → (b : Option ℕ) × IsStuck own js a b → IsStuck own js a None
   held_by_none js (inl y) t = (y.0, y.1, (not_own y.0 Bare y.2, y.2))
-  held_by_none js (inr no) t = not_busy js no t.0 t.1
+  held_by_none js (inr never) t = not_busy js never t.0 t.1
 
   -- all chords are stuck, and were gone through once more for what holds one of them up
   pub told_held : (busy r : Option ℕ) → AreStuck own jss (length jss) a busy → IsHolding own.method jss a r → IsWithout own jss a r

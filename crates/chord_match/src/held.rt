@@ -16,7 +16,8 @@ fn holder(methods: &[u8], known: &[Note; 16]) -> Option<u32>
 {
     let mut busy = None;
     for at in 0..methods.len() {
-        match known[methods[at] as usize] {
+        let note = known[methods[at] as usize];
+        match note {
             Note::Bare => return None,
             Note::Busy(i) => busy = Some(i),
             _ => {}
