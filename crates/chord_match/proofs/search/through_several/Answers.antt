@@ -69,8 +69,10 @@ loop-at-preserved g c =
 
 -- the methods of the chords have their notes
 pub held_up-requires : goal.held_up-requires
-held_up-requires g c = record { lines = λ k js e j y.
-    let low = (c.requires.lines.1 k js e).0 j y in let is = c.args.space.now.sized.5 in let few = c.args.space.now.sized.6 in omega (arith, low, is, few) }
+held_up-requires g c = record {
+  lines = λ k js e j y.
+      let low = (c.requires.lines.1 k js e).0 j y in let is = c.args.space.now.sized.5 in let few = c.args.space.now.sized.6 in omega (arith, low, is, few);
+}
 
 -- a message was in the way, so the chords are gone through once more
 pub returns-in-Some-clause-through : goal.returns-in-Some-clause-through
