@@ -2,6 +2,7 @@
 use Rattle.std.proofs.Common.{◌||◌, ne_eqb, zero, suc, map, replicate, ◌≡◌, ◌≢◌, ◌⊎◌, inl, inr, ℕ, ◌<◌, Bool, true, false, ◌==◌, List, [], ◌∷◌, slice_get, slice_index_or, refl, sym, ap, ◌∙◌, subst, Option, Some, None, if◌then◌else◌}
 use mathlib.Core.Path.{Path}
 use Rattle.std.proofs.lemmas.Bool.{eqb-true, eq-eqb}
+use Rattle.std.proofs.lemmas.List.{append_cancel_right}
 use Rattle.std.proofs.lemmas.Option.{slice_get_within}
 use Rattle.chord_base.specs.Meaning.{Program}
 use Rattle.chord_base.specs.Messages.{has}
@@ -13,6 +14,7 @@ use Rattle.chord_word.specs.declared.cells.Cell.TheVariants.{Empty, Pending, Cla
 use Rattle.chord_word.specs.declared.cells.Word.{Word}
 use Rattle.chord_rule.specs.declared.view.Duty.{Duty}
 use Rattle.chord_rule.specs.declared.view.View.{View}
+use Rattle.chord_rule.specs.declared.view.Way.{Way}
 use Rattle.chord_rule.specs.Bags.{IsArmed}
 use Rattle.chord_rule.specs.Duties.{HasDuty, MayRest, move_duty}
 use Rattle.chord_rule.specs.Kinds.{is_down, looked_cell}
@@ -20,20 +22,21 @@ use Rattle.chord_rule.specs.Looks.{HasLook}
 use Rattle.chord_rule.specs.Made.{key, bag_keys, IsChord}
 use Rattle.chord_rule.specs.Numbers.{HasNumber}
 use Rattle.chord_rule.specs.Tells.{IsLook}
-use Rattle.chord_rule.specs.Ways.{IsAloneDesk, IsSettledCell}
+use Rattle.chord_rule.specs.Ways.{HasWay, IsAloneDesk, IsSettledCell}
 use Rattle.chord_rule.proofs.KeySteps.{same_key}
 use Rattle.chord_bag.specs.declared.walk.Sought.{Sought}
 use Rattle.chord_bag.specs.declared.walk.Sought.TheVariants as a_sought
 use Rattle.chord_bag.specs.Reads.{IsOnlyLooks, after_cell}
+use Rattle.chord_bag.specs.Seeking.{IsSoughtAnswer}
 use Rattle.chord_bag.proofs.Turning.{still_alone, only_more}
 use Rattle.chord_bag.proofs.Walks.{cell_keeps_messages}
 use Rattle.chord_match.specs.declared.search.Own.{Own}
 use Rattle.chord_match.specs.declared.search.Verdict.{Verdict}
 use Rattle.chord_match.specs.declared.search.Verdict.TheVariants as a_verdict
-use Rattle.chord_match.specs.Seen.{AreMatched}
-use Rattle.chord_match.specs.Searching.{WasTold, WasToldIf, Searching, IsStuck, KnowsBeside, IsThrough}
+use Rattle.chord_match.specs.Seen.{Answered, AreMatched}
+use Rattle.chord_match.specs.Searching.{WasTold, WasToldIf, Searching, IsStuck, NoneIsBare, KnowsBeside, IsThrough}
 use Rattle.chord_match.specs.Findings.{AreWithinChords, IsLacking, IsHeldUp, IsMatch, IsLeftAnswer, IsHeldBy, read_so}
-use Rattle.chord_match.proofs.Growing.{duty_is_kept, key_cancels, way_has}
+use Rattle.chord_match.proofs.Growing.{duty_is_kept, key_cancels, way_has, one_way, only_bare}
 
 -- the own message is the member for its own method
 own_member : (v w : View) (o : Object) (m method : ℕ) (next : Option ℕ) (js ms : List ℕ) (xs : List (Option ℕ)) → AreMatched v w o m method next js ms xs → has method js ≡ true → HasNumber m ms
@@ -71,6 +74,21 @@ module _ (n : ℕ) (v w : View) (o : Object) (own : Own) (known : List (Option S
   held_up : (js : List ℕ) (i : ℕ) → IsStuck own js known (Some i) → IsHeldUp v w o own.method js i × (i < n) × (IsAloneDesk v → ⊥)
   held_up js i t = let r = told_at t.0 (a_sought.Busy i) t.2.1 in ((t.0, t.1, t.2.0, r.answered), r.below, r.says)
 
+  -- a way by which an answer was given since is one of those that were gone
+  gone : (k : ℕ) (x : Sought) (a : Answered v w k x) → HasWay a.0 s.sought.grows.ways
+  gone k x a = subst (λ (z : List Way). HasWay a.0 z) (append_cancel_right a.1 s.sought.grows.ways v.looked.ways (sym a.2 ∙ s.sought.grows.more_ways)) a.3
+
+  -- a chord none of whose bags is known to be bare had none that was
+  not_lacking : (js : List ℕ) → NoneIsBare js known → IsLacking v w o own.method js → ⊥
+  not_lacking js none t =
+      let a = t.3 in let here = gone (key o t.0) a_sought.Bare a in
+      let r = s.listed a.0.bag (way_has a.0 s.sought.grows.ways here) in
+      let same : t.0 ≡ r.0 = key_cancels o t.0 r.0 (sym a.4 ∙ r.2) in
+      let is : slice_index_or known t.0 None ≡ Some r.1 = ap (λ (z : ℕ). slice_index_or known z None) same ∙ r.3 in
+      let b = (told_at t.0 r.1 is).answered in
+      let one : b.0 ≡ a.0 = one_way b.0 a.0 s.sought.grows.ways s.sought.once (gone (key o t.0) r.1 b) here (b.4 ∙ sym a.4) in
+      none t.0 t.1 (is ∙ ap (λ (z : Sought). Some z) (only_bare a.0 r.1 a.5 (subst (λ (z : Way). IsSoughtAnswer z r.1) one b.5)))
+
 -- ## The own message
 
 -- a look at m that finds it down marks the duty as off
@@ -106,6 +124,10 @@ pub all_none : (n q : ℕ) → slice_index_or (replicate n nothing) q nothing �
 all_none zero q = refl
 all_none (suc n) zero = refl
 all_none (suc n) (suc q) = all_none n q
+
+-- so none is known to be bare
+pub none_bare : (n q : ℕ) → slice_index_or (replicate n nothing) q nothing ≢ Some a_sought.Bare
+none_bare n q e = let z : Path (Option Sought) None (Some a_sought.Bare) = sym (all_none n q) ∙ e in absurd (cc)
 
 -- so none is known that stands beside no own method
 pub beside_none : (own : Own) (jss : List (List ℕ)) → KnowsBeside own jss (replicate 16 None)
@@ -195,15 +217,15 @@ module _ (n : ℕ) (p : Program) (v w : View) (o : Object) (own : Own) (known : 
       next = own.next;
       sought = t.stands.sought;
       within = within (a_verdict.Without (Some i)) t;
-      each = λ k js c. let r = t.verdict.0 k js (slice_get_within (p.chords o.class) k js c.0) c.0 c.1 in either_way js r.0 r.1;
-      one = let r = t.verdict.1 in (r.0, r.1, (r.3, r.4), one.0);
+      each = λ k js c. let r = t.verdict.0 k js c.0 c.1 in either_way js r.0 r.1;
+      one = let r = t.verdict.1 in (r.0, r.1, (r.2, r.3), one.0, not_lacking n seen w o own known t.stands r.1 r.5);
     };
     below = one.1;
     alone = λ a. one.2 (still_alone v seen (look_only v own.message (record { cell = Pending; next = own.next })) a);
   }
     where
       one : IsHeldUp seen w o own.method t.verdict.1.1 i × (i < n) × (IsAloneDesk seen → ⊥)
-      one = held_up n seen w o own known t.stands t.verdict.1.1 i t.verdict.1.5
+      one = held_up n seen w o own known t.stands t.verdict.1.1 i t.verdict.1.4
 
       either_way : (js : List ℕ) (b : Option ℕ) → IsStuck own js known b → IsLacking seen w o own.method js ⊎ ((x : ℕ) × IsHeldUp seen w o own.method js x)
       either_way js None s = inl (lacking n seen w o own known t.stands js s)

@@ -1,26 +1,27 @@
 -- What was read and answered stays so while the desk looks on.
-use Rattle.std.proofs.Common.{◌≡◌, ◌≢◌, inl, inr, ℕ, ◌<◌, true, List, [], ◌∷◌, ◌++◌, append_assoc, refl, sym, ap, ◌∙◌, subst, arith, Option, Some, None, IfSome}
+use Rattle.std.proofs.Common.{◌≡◌, ◌≢◌, inl, inr, ℕ, ◌<◌, false, true, List, [], ◌∷◌, ◌++◌, append_assoc, refl, sym, ap, ◌∙◌, subst, arith, Option, Some, None, IfSome}
 use Rattle.std.proofs.lemmas.Bool.{eq-eqb}
 use Rattle.chord_base.specs.Meaning.{Program}
-use Rattle.chord_base.specs.Messages.{has}
+use Rattle.chord_base.specs.Messages.{has, AreDifferent}
 use Rattle.chord_base.specs.declared.value.Object.{Object}
 use Rattle.chord_base.proofs.Pending.{has_more}
 use Rattle.chord_word.specs.declared.cells.Cell.{Cell}
-use Rattle.chord_word.specs.declared.cells.Cell.TheVariants.{Pending, Consumed}
+use Rattle.chord_word.specs.declared.cells.Cell.TheVariants.{Pending, Claimed, Consumed}
 use Rattle.chord_word.specs.declared.cells.Word.{Word}
 use Rattle.chord_rule.specs.declared.view.Duty.{Duty}
 use Rattle.chord_rule.specs.declared.view.Look.{Look}
 use Rattle.chord_rule.specs.declared.view.View.{View}
 use Rattle.chord_rule.specs.declared.view.Way.{Way}
 use Rattle.chord_rule.specs.Duties.{HasDuty}
+use Rattle.chord_rule.specs.Kinds.{is_down}
 use Rattle.chord_rule.specs.Bags.{head_number}
 use Rattle.chord_rule.specs.Looks.{HasLook, HasSeen, LastHead}
 use Rattle.chord_rule.specs.Made.{key}
 use Rattle.chord_rule.specs.Ways.{HasWay, WasRead, KnowsBag, KnowsObject, LastSeen}
 use Rattle.chord_bag.specs.declared.walk.Sought.{Sought}
-use Rattle.chord_bag.specs.declared.walk.Sought.TheVariants.{Found}
-use Rattle.chord_bag.specs.Reads.{HasRead, with_looks, messages_and_bags}
-use Rattle.chord_bag.specs.Seeking.{IsReadUnconsumed, IsSought, IsTidy, KeepsHeads, newest_looks}
+use Rattle.chord_bag.specs.declared.walk.Sought.TheVariants.{Found, Bare, Busy}
+use Rattle.chord_bag.specs.Reads.{HasRead, AllRead, with_looks, messages_and_bags}
+use Rattle.chord_bag.specs.Seeking.{IsReadUnconsumed, IsBare, IsSoughtAnswer, IsSought, IsTidy, KeepsHeads, newest_looks}
 use Rattle.chord_match.specs.Seen.{bags_of, Grows, IsLeftTidy, Answered, MayBeClaimed, MayAllBeClaimed, AreSeen, IsMember}
 
 -- a way that was gone before is still one
@@ -33,6 +34,27 @@ pub way_has : (x : Way) (ws : List Way) → HasWay x ws → has x.bag (bags_of w
 way_has x [] h = absurd h
 way_has x (w ∷ ws) (inl e) = rw (eq-eqb x.bag w.bag (ap (λ (z : Way). z.bag) e)) refl
 way_has x (w ∷ ws) (inr h) = has_more x.bag w.bag (bags_of ws) (way_has x ws h)
+
+-- where no bag was sought twice, one bag has one way
+pub one_way : (x y : Way) (ws : List Way) → AreDifferent (bags_of ws) → HasWay x ws → HasWay y ws → x.bag ≡ y.bag → x ≡ y
+one_way x y [] d h g e = absurd h
+one_way x y (w ∷ ws) d (inl a) (inl b) e = a ∙ sym b
+one_way x y (w ∷ ws) d (inl a) (inr b) e = let z : false ≡ true = sym d.0 ∙ ap (λ (k : ℕ). has k (bags_of ws)) (sym (ap (λ (r : Way). r.bag) a) ∙ e) ∙ way_has y ws b in absurd (cc)
+one_way x y (w ∷ ws) d (inr a) (inl b) e = let z : false ≡ true = sym d.0 ∙ ap (λ (k : ℕ). has k (bags_of ws)) (sym (ap (λ (r : Way). r.bag) b) ∙ sym e) ∙ way_has x ws a in absurd (cc)
+one_way x y (w ∷ ws) d (inr a) (inr b) e = one_way x y ws d.1 a b e
+
+-- where all that was read was down, nothing was read claimed
+none_claimed : (i : ℕ) (ls : List Look) → AllRead is_down ls → HasRead i Claimed ls → ⊥
+none_claimed i [] d h = absurd h
+none_claimed i (l ∷ ls) d (inl q) = let z : false ≡ true = subst (λ (c : Cell). is_down c ≡ true) q.1 d.0 in absurd (cc)
+none_claimed i (l ∷ ls) d (inr h) = none_claimed i ls d.1 h
+
+-- a way that shows its bag bare shows nothing else
+pub only_bare : (x : Way) (s : Sought) → IsBare x → IsSoughtAnswer x s → s ≡ Bare
+only_bare x Bare b a = refl
+only_bare x (Found i next) b a = let t = subst (AllRead is_down) a.1 b.1 in let z : false ≡ true = t.0 in absurd (cc)
+only_bare x (Busy i) b (inl a) = let t = subst (AllRead is_down) a.1.1 b.1 in let z : false ≡ true = t.0 in absurd (cc)
+only_bare x (Busy i) b (inr a) = absurd (none_claimed i x.looks b.1 a.2)
 
 -- a look that was made before is still one
 pub has_look_right : (i : ℕ) (c : Word) (us vs : List Look) → HasLook i c vs → HasLook i c (us ++ vs)

@@ -21,11 +21,12 @@ use Rattle.chord_bag.specs.Reads.{AllAt}
 use Rattle.chord_bag.specs.Seeking.{IsSought, IsTidy, KeepsHeads}
 use Rattle.chord_bag.proofs.Turning.{still_alone}
 use Rattle.chord_match.specs.declared.search.Own.{Own}
+use Rattle.chord_match.specs.declared.search.Pick.{Pick}
 use Rattle.chord_match.specs.declared.search.Pick.TheVariants as a_pick
 use Rattle.chord_match.specs.declared.search.Step.{Step}
 use Rattle.chord_match.specs.declared.search.Step.TheVariants as a_step
 use Rattle.chord_match.specs.Seen.{bags_of, Grows, IsLeftTidy, MayAllBeClaimed, AreMatched}
-use Rattle.chord_match.specs.Searching.{SaysOf, WasTold, WasToldIf, Searching, KeepsKnown, Moves, Learned, LearnsAt, LearnsOf, pick_of, IsStuckAt, Picked, PickedFirst, IsStuck, IsGathered, Gathered}
+use Rattle.chord_match.specs.Searching.{SaysOf, WasTold, WasToldIf, Searching, KeepsKnown, Moves, Learned, LearnsAt, LearnsOf, pick_of, IsStuckAt, Picked, PickedFirst, IsStuck, IsGathered, Gathered, TellsBare}
 use Rattle.chord_match.proofs.Lists.{first_has, different_at, from_place}
 use Rattle.chord_match.proofs.Growing.{grows_refl, grows_trans, sought_grows, answered_on, seen_on, duty_on, knows_on, ready_on, member_on, key_cancels, head_cancels, way_has, newest_tidy, still_left_tidy, found_ready, answered}
 
@@ -179,7 +180,7 @@ module _ (n : ℕ) where
 
   -- the own message is picked before its bag is sought
   pub first_own : (v u : View) (o : Object) (own : Own) (j : ℕ) (known : List (Option Sought)) → j ≡ own.method → Searching n v u o own known → PickedFirst n v u u o own j known (a_pick.Take own.message own.next)
-  first_own v u o own j known e t = record { after = known; long = refl; others = λ q ne. refl; picked = picked_own v u o own j known e t }
+  first_own v u o own j known e t = record { after = known; long = refl; others = λ q ne. refl; bare = λ q h. inl h; picked = picked_own v u o own j known e t }
 
   module _ (v u w : View) (o : Object) (own : Own) (j : ℕ) (known : List (Option Sought)) (e : slice_index_or known j None ≡ None) (low : j < length known) (few : j < 16) (ne : j ≢ own.method) (t : Searching n v u o own known) where
     -- the bag is sought for the first time, and no other
@@ -188,6 +189,9 @@ module _ (n : ℕ) where
       after = slice_set known j (Some s);
       long = length-set known j (Some s);
       others = λ q no. get_or-set_other known j q (Some s) None no;
+      bare = λ q h. dite (ℕ_discrete q j)
+          (λ same. inr (let z : Path (Option Sought) (Some s) (Some Bare) = sym (ap (λ (y : ℕ). slice_index_or (slice_set known j (Some s)) y None) same ∙ get_or-set_same known j (Some s) None low) ∙ h in let y : s ≡ Bare = cc in ap pick_of y))
+          (λ no. inl (sym (get_or-set_other known j q (Some s) None no) ∙ h));
       picked = picked_sought v u w o own j known (slice_set known j (Some s)) s ne (learned_now u w o j known s e low few f tidied apart) t;
     }
 
@@ -252,11 +256,12 @@ module _ (n : ℕ) where
   pub part_all : (v u x : View) (o : Object) (own : Own) (js rest : List ℕ) (a b : List (Option Sought)) (ms ms' : List ℕ) (xs xs' : List (Option ℕ)) → rest ≡ [] → IsPartGathered v u x o own js rest a b ms ms' xs xs' → Gathered n v u x o own js a b ms ms' xs xs' a_step.All
   part_all v u x o own js rest a b ms ms' xs xs' e t = t.joins x b ms' xs' a_step.All (subst (λ (z : List ℕ). Gathered n v x x o own z b b ms' ms' xs' xs' a_step.All) (sym e) (gathered_none v x o own b ms' xs' t.stands))
 
-  -- while a chord is gathered whose bags were not sought: those of the methods that are left still were not
+  -- while a chord is gathered whose bags were not sought: those of the methods that are left still were not, and none is known to be bare
   pub record IsFirstGathered (v u x : View) (o : Object) (own : Own) (js : List ℕ) (k : ℕ) (a : List (Option Sought)) (ms ms' : List ℕ) (xs xs' : List (Option ℕ)) : Type 0 where
     pub known : List (Option Sought)
     pub long : length known ≡ 16
     pub left : (q : ℕ) → k ≤ q → q < length js → slice_index_or known (slice_index_or js q 0) None ≡ None
+    pub none : (q : ℕ) → slice_index_or known q None ≢ Some Bare
     pub part : IsPartGathered v u x o own js (drop k js) a known ms ms' xs xs'
 
   module _ (v u x y : View) (o : Object) (own : Own) (js : List ℕ) (k : ℕ) (low : k < length js) (a : List (Option Sought)) (ms ms' : List ℕ) (xs xs' : List (Option ℕ)) (t : IsFirstGathered v u x o own js k a ms ms' xs xs') where
@@ -266,9 +271,20 @@ module _ (n : ℕ) where
       known = p.after;
       long = p.long ∙ t.long;
       left = λ q from l. p.others (slice_index_or js q 0) (λ e. different_at js different k q (omega (arith, from)) l (sym e)) ∙ t.left q (omega (arith, from)) l;
+      none = λ q e. elim (p.bare q e) [
+        | inl z ↦ t.none q z
+        | inr z ↦ absurd (let y : Path Pick (a_pick.Take i next) (a_pick.Stuck None) = z in cc)
+      ];
       part = part_more v u x y o own js (slice_index_or js k 0) (drop k js) (drop (k + 1) js) (from_place js k low) a t.known p.after ms ms' xs xs' t.part i next p.picked;
     }
 
     -- where one has none
     pub first_stuck : (q : Option ℕ) → (p : PickedFirst n v x y o own (slice_index_or js k 0) t.known (a_pick.Stuck q)) → Gathered n v u y o own js a p.after ms ms' xs xs' (a_step.Stuck q)
     first_stuck q p = part_stuck v u x y o own js (slice_index_or js k 0) (drop k js) (drop (k + 1) js) (from_place js k low) a t.known p.after ms ms' xs xs' t.part q p.picked
+
+    -- only by that one a bag is known to be bare
+    pub first_bare : (q : Option ℕ) → (p : PickedFirst n v x y o own (slice_index_or js k 0) t.known (a_pick.Stuck q)) → TellsBare p.after (a_step.Stuck q)
+    first_bare q p r e = elim (p.bare r e) [
+      | inl z ↦ absurd (t.none r z)
+      | inr z ↦ let y : q ≡ None = cc in ap (λ (b : Option ℕ). a_step.Stuck b) y
+    ]

@@ -1,4 +1,5 @@
 pub mod Lists
+pub mod Holders
 pub mod InOrder
 pub mod Growing
 pub mod Noted

@@ -1,5 +1,5 @@
 -- Numbers in lists.
-use Rattle.std.proofs.Common.{zero, suc, ◌≢◌, slice_index_or, ◌≡◌, ◌⊎◌, inl, inr, ℕ, ◌+◌, ◌<◌, true, false, ◌++◌, List, [], ◌∷◌, drop, length, refl, sym, ap, ◌∙◌, arith}
+use Rattle.std.proofs.Common.{Bool, ◌||◌, ne_eqb, subst, zero, suc, ◌≢◌, slice_index_or, ◌≡◌, ◌⊎◌, inl, inr, ℕ, ◌+◌, ◌<◌, true, false, ◌++◌, List, [], ◌∷◌, drop, length, refl, sym, ap, ◌∙◌, arith}
 use mathlib.Core.Logic.{dite}
 use native.Mathlib.Decide.{ℕ_discrete}
 use Rattle.std.proofs.lemmas.Bool.{eq-eqb}
@@ -30,6 +30,13 @@ pub has_at : (js : List ℕ) (q : ℕ) → q < length js → has (slice_index_or
 has_at [] q l = absurd (omega (arith, l))
 has_at (j ∷ js) zero l = first_has j js
 has_at (j ∷ js) (suc q) l = has_more (slice_index_or js q 0) j js (has_at js q (omega (arith, l)))
+
+-- a number that is among a list has a place there
+pub has_place : (j : ℕ) (js : List ℕ) → has j js ≡ true → (q : ℕ) × (q < length js) × (slice_index_or js q 0 ≡ j)
+has_place j [] h = absurd (let z : false ≡ true = h in cc)
+has_place j (i ∷ js) h = dite (ℕ_discrete j i)
+    (λ same. (0, omega arith, sym same))
+    (λ ne. let r = has_place j js (subst (λ (b : Bool). (b || has j js) ≡ true) (ne_eqb j i ne) h) in let low = r.1 in (suc r.0, omega (arith, low), r.2))
 
 -- the numbers from a place on are that at this place, and those behind it
 pub from_place : (js : List ℕ) (q : ℕ) → q < length js → drop q js ≡ slice_index_or js q 0 ∷ drop (q + 1) js

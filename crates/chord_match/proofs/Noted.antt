@@ -1,7 +1,10 @@
 -- What is known where a note is read or written.
-use Rattle.std.proofs.Common.{zero, suc, ◌≡◌, ℕ, ◌<◌, List, [], ◌∷◌, length, slice_index_or, slice_set, refl, ap, Option, None, arith}
+use Rattle.std.proofs.Common.{zero, suc, ◌≡◌, ◌≢◌, ℕ, ◌<◌, List, [], ◌∷◌, length, slice_index_or, slice_set, refl, ap, Option, Some, None, arith}
+use mathlib.Core.Path.{Path}
 use Rattle.chord_bag.specs.declared.walk.Sought.{Sought}
+use Rattle.chord_bag.specs.declared.walk.Sought.TheVariants as a_sought
 use Rattle.chord_match.specs.declared.notes.Note.{Note}
+use Rattle.chord_match.specs.declared.notes.Note.TheVariants.{Nothing, Bare, Busy, Last, Before}
 use Rattle.chord_match.specs.Noting.{told_by, all_told}
 
 -- what a note that was read says is known
@@ -20,3 +23,19 @@ told_where_set (x ∷ notes) (suc j) n = ap (λ (z : List (Option Sought)). told
 pub all_long : (notes : List Note) → length (all_told notes) ≡ length notes
 all_long [] = refl
 all_long (x ∷ notes) = ap suc (all_long notes)
+
+-- a note that is not of a bare bag tells none
+pub not_told_bare : (n : Note) → n ≢ Bare → told_by n ≢ Some a_sought.Bare
+not_told_bare Nothing ne e = let z : Path (Option Sought) None (Some a_sought.Bare) = e in absurd (cc)
+not_told_bare Bare ne e = absurd (ne refl)
+not_told_bare (Busy i) ne e = let z : Path (Option Sought) (Some (a_sought.Busy i)) (Some a_sought.Bare) = e in absurd (cc)
+not_told_bare (Last i) ne e = let z : Path (Option Sought) (Some (a_sought.Found i None)) (Some a_sought.Bare) = e in absurd (cc)
+not_told_bare (Before i next) ne e = let z : Path (Option Sought) (Some (a_sought.Found i (Some next))) (Some a_sought.Bare) = e in absurd (cc)
+
+-- a note that is not of a busy bag tells none
+pub not_told_busy : (n : Note) (x : ℕ) → ((i : ℕ) → n ≢ Busy i) → told_by n ≢ Some (a_sought.Busy x)
+not_told_busy Nothing x ne e = let z : Path (Option Sought) None (Some (a_sought.Busy x)) = e in absurd (cc)
+not_told_busy Bare x ne e = let z : Path (Option Sought) (Some a_sought.Bare) (Some (a_sought.Busy x)) = e in absurd (cc)
+not_told_busy (Busy i) x ne e = absurd (ne i refl)
+not_told_busy (Last i) x ne e = let z : Path (Option Sought) (Some (a_sought.Found i None)) (Some (a_sought.Busy x)) = e in absurd (cc)
+not_told_busy (Before i next) x ne e = let z : Path (Option Sought) (Some (a_sought.Found i (Some next))) (Some (a_sought.Busy x)) = e in absurd (cc)

@@ -58,13 +58,13 @@ pub record IsLeftAnswer (p : Program) (v u : View) (m : ℕ) (o : Object) (metho
   pub within : AreWithinChords p o method sought.grows.ways
   pub lacking : (k : ℕ) (js : List ℕ) → IsChordWith p o method k js → IsLacking (read_so v m Pending next) u o method js
 
--- m was read pending, and since then bags of chords with m were sought, none of them twice, and each chord with m had another method whose bag was bare or busy, and i is the message of a busy one
+-- m was read pending, and since then bags of chords with m were sought, none of them twice, and each chord with m had another method whose bag was bare or busy, and i is the message of a busy one, in a chord none of whose bags was bare
 pub record IsBusyWith (p : Program) (v w : View) (m : ℕ) (o : Object) (method i : ℕ) : Type 0 where
   pub next : Option ℕ
   pub sought : HasSought (read_so v m Pending next) w
   pub within : AreWithinChords p o method sought.grows.ways
   pub each : (k : ℕ) (js : List ℕ) → IsChordWith p o method k js → IsLacking (read_so v m Pending next) w o method js ⊎ ((x : ℕ) × IsHeldUp (read_so v m Pending next) w o method js x)
-  pub one : (k : ℕ) × (js : List ℕ) × IsChordWith p o method k js × IsHeldUp (read_so v m Pending next) w o method js i
+  pub one : (k : ℕ) × (js : List ℕ) × IsChordWith p o method k js × IsHeldUp (read_so v m Pending next) w o method js i × (IsLacking (read_so v m Pending next) w o method js → ⊥)
 
 -- what a message in another hand says: it is m, which was read claimed, or one of a busy bag; and the desk is not alone
 pub record IsHeldBy (p : Program) (n : ℕ) (v w : View) (m : ℕ) (o : Object) (method i : ℕ) : Type 0 where

@@ -105,6 +105,8 @@ pub record PickedFirst (n : ℕ) (v u w : View) (o : Object) (own : Own) (j : �
   pub after : List (Option Sought)
   pub long : length after ≡ length known
   pub others : (q : ℕ) → q ≢ j → slice_index_or after q None ≡ slice_index_or known q None
+  -- what is known to be bare more, the pick tells
+  pub bare : (q : ℕ) → slice_index_or after q None ≡ Some Bare → (slice_index_or known q None ≡ Some Bare) ⊎ (t ≡ a_pick.Stuck None)
   pub picked : Picked n v u w o own j known after t
 
 -- one of the methods has no member
@@ -122,6 +124,10 @@ pub record Gathered (n : ℕ) (v u w : View) (o : Object) (own : Own) (js : List
   pub gathered : IsGathered n v w o own js known' ms ms' xs xs' t
   pub learns : LearnsOf own js known known'
 
+-- a bag is known to be bare only where one of the methods is stuck for it
+abbrev pub TellsBare : List (Option Sought) → Step → Type 0
+TellsBare known t = (q : ℕ) → slice_index_or known q None ≡ Some Bare → t ≡ a_step.Stuck None
+
 -- the first of two messages that are in other hands
 abbrev pub firstly : Option ℕ → Option ℕ → Option ℕ
 firstly (Some i) more = Some i
@@ -133,10 +139,30 @@ AreStuck own jss m known None = (q : ℕ) (js : List ℕ) → q < m → slice_ge
 AreStuck own jss m known (Some i) = ((q : ℕ) (js : List ℕ) → q < m → slice_get jss q ≡ Some js → has own.method js ≡ true → (b : Option ℕ) × IsStuck own js known b)
     × ((q : ℕ) × (js : List ℕ) × (q < m) × (slice_get jss q ≡ Some js) × (has own.method js ≡ true) × IsStuck own js known (Some i))
 
+-- no bag of these methods is known to be bare
+abbrev pub NoneIsBare : List ℕ → List (Option Sought) → Type 0
+NoneIsBare js known = (j : ℕ) → has j js ≡ true → slice_index_or known j None ≢ Some Bare
+
+-- i is in another hand in the bag of one of these methods, and none is known to be bare; or one is, or no bag is known to be busy
+abbrev pub IsHolder : List ℕ → List (Option Sought) → Option ℕ → Type 0
+IsHolder js known None = ((j : ℕ) × (has j js ≡ true) × (slice_index_or known j None ≡ Some Bare)) ⊎ ((j i : ℕ) → has j js ≡ true → slice_index_or known j None ≢ Some (Busy i))
+IsHolder js known (Some i) = ((j : ℕ) × (has j js ≡ true) × (slice_index_or known j None ≡ Some (Busy i))) × NoneIsBare js known
+
+-- so for one of the chords with the method, or for none of them
+abbrev pub IsHolding : ℕ → List (List ℕ) → List (Option Sought) → Option ℕ → Type 0
+IsHolding method jss known None = (q : ℕ) (js : List ℕ) → slice_get jss q ≡ Some js → has method js ≡ true → IsHolder js known None
+IsHolding method jss known (Some i) = (q : ℕ) × (js : List ℕ) × (slice_get jss q ≡ Some js) × (has method js ≡ true) × IsHolder js known (Some i)
+
+-- each chord with the method is stuck: all by bare bags, or i is in another hand for one of them, and no bag of that one is known to be bare
+abbrev pub IsWithout : Own → List (List ℕ) → List (Option Sought) → Option ℕ → Type 0
+IsWithout own jss known None = AreStuck own jss (length jss) known None
+IsWithout own jss known (Some i) = ((q : ℕ) (js : List ℕ) → slice_get jss q ≡ Some js → has own.method js ≡ true → (b : Option ℕ) × IsStuck own js known b)
+    × ((q : ℕ) × (js : List ℕ) × (slice_get jss q ≡ Some js) × (has own.method js ≡ true) × IsStuck own js known (Some i) × NoneIsBare js known)
+
 -- these are members of the chord of this number, or each chord with the method is stuck
 abbrev pub IsVerdict : ℕ → View → View → Object → Own → List (List ℕ) → List (Option Sought) → List ℕ → List (Option ℕ) → Verdict → Type 0
 IsVerdict n v w o own jss known ms xs (a_verdict.Match k) = (js : List ℕ) × (slice_get jss k ≡ Some js) × (has own.method js ≡ true) × AreMatched v w o own.message own.method own.next js ms xs × MayAllBeClaimed n w o js ms xs
-IsVerdict n v w o own jss known ms xs (a_verdict.Without b) = AreStuck own jss (length jss) known b
+IsVerdict n v w o own jss known ms xs (a_verdict.Without b) = IsWithout own jss known b
 
 -- of each bag nothing is known, or it is that of another method, which stands in one of these chords with the own one
 abbrev pub KnowsBeside : Own → List (List ℕ) → List (Option Sought) → Type 0

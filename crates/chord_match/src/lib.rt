@@ -7,6 +7,7 @@
 
 mod claiming;
 mod handing;
+mod held;
 pub mod nexts;
 mod notes;
 mod search;

@@ -14,6 +14,7 @@ ghost use Rattle.chord_match.specs.Findings.{IsFinding};
 ghost use Rattle.chord_match.specs.Noting.{all_told};
 ghost use Rattle.chord_match.specs.Searching.{Searching, Learned, Picked, Gathered, IsThrough, firstly, pick_of};
 
+use crate::held::held_up;
 use crate::nexts::Nexts;
 use crate::notes::Note;
 use crate::unnoted::gather_one;
@@ -231,7 +232,10 @@ fn through_several<P: Carry>(
         }
         at = line_behind(lines, at, second, own.method);
     }
-    Verdict::Without(busy)
+    match busy {
+        Some(_) => Verdict::Without(held_up(lines, own.method, &known)),
+        None => Verdict::Without(None),
+    }
 }
 
 // A chord with the message that has its members, and these, or why there is none; the caller's place is filled, since to give them
@@ -272,7 +276,7 @@ fn through<P: Carry>(
 
 /// Looks for a chord with message m, to this method of this object, on which the desk has a duty: looks at m, and then seeks
 /// bags of the other methods of the chords with m's method, none of them twice, and no other bag. `Match` goes before `Busy`, and
-/// `Busy` before `Left`. The duty is laid down with `Left` and `Taken` alone. On a first desk that has lent none and has no claim
+/// `Busy` before `Left`; a chord of which one bag was found bare makes none busy. The duty is laid down with `Left` and `Taken` alone. On a first desk that has lent none and has no claim
 /// and nothing in flight it is never Busy, and the head of each bag that was sought then leads nowhere, or to a message that the
 /// way through the bag read, and not consumed. Who has what was read claimed is not said here: where this desk has no claim, the
 /// rule says that another one has.

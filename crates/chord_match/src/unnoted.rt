@@ -4,7 +4,7 @@ ghost use Rattle.chord_base.specs.Messages.{has, AreDifferent};
 ghost use Rattle.chord_bag.specs.declared.walk.Sought.{Sought};
 ghost use Rattle.chord_rule.specs.declared.view.View.{View};
 ghost use Rattle.chord_space.specs.Desks.{view, heads, IsDeskOf, IsSameDesk};
-ghost use Rattle.chord_match.specs.Searching.{Searching, PickedFirst, Gathered};
+ghost use Rattle.chord_match.specs.Searching.{Searching, PickedFirst, Gathered, TellsBare};
 
 use crate::nexts::Nexts;
 use crate::search::{Own, Pick, Step};
@@ -50,7 +50,7 @@ pub(crate) fn gather_one<P: Carry>(
     requires searching { (v : View) × Searching space.now.events v (view desk.old) object own.now (replicate 16 None) }
     requires room { (length members.old + length methods.now ≤ 8) × (length nexts.old + length methods.now ≤ 8) }
     ensures desk { IsSameDesk desk.old desk.new }
-    ensures gathered { (v : View) → Searching space.now.events v (view desk.old) object own.now (replicate 16 None) → (known : List (Option Sought)) × Gathered space.now.events v (view desk.old) (view desk.new) object own.now methods.now (replicate 16 None) known members.old members.new nexts.old nexts.new result }
+    ensures gathered { (v : View) → Searching space.now.events v (view desk.old) object own.now (replicate 16 None) → (known : List (Option Sought)) × Gathered space.now.events v (view desk.old) (view desk.new) object own.now methods.now (replicate 16 None) known members.old members.new nexts.old nexts.new result × TellsBare known result }
 {
     for method in methods {
         match pick_first(space, desk, object, own, *method) {

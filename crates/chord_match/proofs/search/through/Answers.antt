@@ -3,7 +3,7 @@ use Rattle.std.proofs.lemmas.List.{length-map}
 use Rattle.chord_code.specs.Headers.{LackHeader}
 use Rattle.chord_code.specs.Meaning.{methods_of}
 use Rattle.chord_space.specs.Desks.{view}
-use Rattle.chord_match.proofs.Chords.{chord_line_at, are_more, none_stuck, all_stuck, beside_more}
+use Rattle.chord_match.proofs.Chords.{chord_line_at, one_without, beside_more}
 use Rattle.chord_match.proofs.Finds.{beside_none}
 use Rattle.chord_match.proofs.Knowing.{all_gathered}
 use Rattle.chord_match.proofs.search.through.Goals as goal
@@ -29,5 +29,4 @@ returns-in-Stuck-clause-through g c v t =
     let got = c.in-Stuck.ensures.gathered v t in let jss = map methods_of c.args.lines.now in let own = c.args.own.now in
     let last = c.if-more-lines.false in let long = length-map c.args.lines.now methods_of in
     let off : LackHeader own.method jss (at + 1) (length jss) = λ q ks a b e. c.line_with-more.ensures.skipped q ks a (omega (arith, b, last, long)) e in
-    let one = are_more own jss at js got.0 None c.in-Stuck.busy here (c.line_with-at.ensures.here js here) got.1.gathered (none_stuck own jss at got.0 c.line_with-at.ensures.skipped) in
-    (got.0, record { stands = got.1.moves.stands; verdict = all_stuck own jss (at + 1) (length jss) got.0 c.in-Stuck.busy (omega (arith, most, other, long)) off one; beside = beside_more own jss at js (replicate 16 None) got.0 here (c.line_with-at.ensures.here js here) (beside_none own jss) got.1.learns })
+    (got.0, record { stands = got.1.moves.stands; verdict = one_without own jss at js got.0 c.in-Stuck.busy here (c.line_with-at.ensures.here js here) got.1.gathered c.line_with-at.ensures.skipped off got.2; beside = beside_more own jss at js (replicate 16 None) got.0 here (c.line_with-at.ensures.here js here) (beside_none own jss) got.1.learns })

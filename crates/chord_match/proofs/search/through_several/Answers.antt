@@ -4,7 +4,7 @@ use Rattle.chord_space.specs.Desks.{view}
 use Rattle.chord_match.specs.declared.search.Step.{Step}
 use Rattle.chord_match.specs.Searching.{Gathered, AreStuck}
 use Rattle.chord_match.specs.Noting.{all_told}
-use Rattle.chord_match.proofs.Chords.{chord_line_at, all_lines, are_kept, are_more, none_stuck, all_stuck, beside_more}
+use Rattle.chord_match.proofs.Chords.{chord_line_at, all_lines, are_kept, are_more, none_stuck, all_stuck, told_held, beside_more}
 use Rattle.chord_match.proofs.Finds.{beside_none}
 use Rattle.chord_match.proofs.Knowing.{all_gathered}
 use Rattle.chord_match.proofs.search.through_several.Goals as goal
@@ -67,7 +67,22 @@ loop-at-preserved g c =
           )),
     )
 
-pub returns-clause-through : goal.returns-clause-through
-returns-clause-through g c v t =
-    let s = c.loop-at.invariant.3 v t in
-    (all_told c.loop-at.known, record { stands = s.0; verdict = all_lines c.args.own.now c.args.lines.now c.loop-at.at (all_told c.loop-at.known) c.loop-at.busy c.loop-at-test.false c.loop-at.invariant.2.1 s.1; beside = s.2 })
+-- the methods of the chords have their notes
+pub held_up-requires : goal.held_up-requires
+held_up-requires g c = record {
+  lines = λ k js e j y.
+      let low = (c.requires.lines.1 k js e).0 j y in let is = c.args.space.now.sized.5 in let few = c.args.space.now.sized.6 in omega (arith, low, is, few);
+}
+
+-- a message was in the way, so the chords are gone through once more
+pub returns-in-Some-clause-through : goal.returns-in-Some-clause-through
+returns-in-Some-clause-through g c v t =
+    let s = c.loop-at.invariant.3 v t in let own = c.args.own.now in let lines = c.args.lines.now in let known = all_told c.loop-at.known in
+    let all = all_lines own lines c.loop-at.at known c.loop-at.busy c.loop-at-test.false c.loop-at.invariant.2.1 s.1 in
+    (known, record { stands = s.0; verdict = told_held own (map methods_of lines) known s.2 c.loop-at.busy c.held_up.result all c.held_up.ensures; beside = s.2 })
+
+pub returns-in-None-clause-through : goal.returns-in-None-clause-through
+returns-in-None-clause-through g c v t =
+    let s = c.loop-at.invariant.3 v t in let own = c.args.own.now in let lines = c.args.lines.now in let known = all_told c.loop-at.known in
+    let all = all_lines own lines c.loop-at.at known c.loop-at.busy c.loop-at-test.false c.loop-at.invariant.2.1 s.1 in
+    (known, record { stands = s.0; verdict = subst (λ (b : Option ℕ). AreStuck own (map methods_of lines) (length (map methods_of lines)) known b) c.in-None.is all; beside = s.2 })

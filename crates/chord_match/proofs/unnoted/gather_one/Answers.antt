@@ -4,9 +4,9 @@ use Rattle.chord_space.specs.Desks.{view, heads}
 use Rattle.chord_bag.specs.declared.walk.Sought.{Sought}
 use Rattle.chord_match.specs.declared.search.Pick.{Pick}
 use Rattle.chord_match.specs.Searching.{PickedFirst}
-use Rattle.chord_match.proofs.Finds.{all_none}
+use Rattle.chord_match.proofs.Finds.{all_none, none_bare}
 use Rattle.chord_match.proofs.Lists.{has_at, from_place, one_longer}
-use Rattle.chord_match.proofs.Knowing.{IsFirstGathered, part_first, part_all, first_more, first_stuck}
+use Rattle.chord_match.proofs.Knowing.{IsFirstGathered, part_first, part_all, first_more, first_stuck, first_bare}
 use Rattle.chord_match.proofs.unnoted.gather_one.Goals as goal
 
 -- a method of an object has its place among all
@@ -22,6 +22,7 @@ loop-method-init g c = (
     known = replicate 16 None;
     long = refl;
     left = λ q from l. all_none 16 (slice_index_or c.args.methods.now q 0);
+    none = λ q. none_bare 16 q;
     part = part_first c.args.space.now.events v (view c.args.desk.now) c.args.object c.args.own.now c.args.methods.now (replicate 16 None) c.args.members.now c.args.nexts.now t;
   },
 )
@@ -58,9 +59,9 @@ pub returns-in-Stuck-clause-gathered : goal.returns-in-Stuck-clause-gathered
 returns-in-Stuck-clause-gathered g c v t =
     let js = c.args.methods.now in let k = c.loop-method.method-index in let part = c.loop-method.invariant.3 v t in
     let first = subst (λ (p : Pick). PickedFirst c.args.space.now.events v (view c.loop-method.desk) (view c.pick_first.new.desk) c.args.object c.args.own.now (slice_index_or js k 0) part.known p) c.in-Stuck.is (c.pick_first.ensures.picked v part.known part.part.stands (part.left k (omega arith) c.loop-method-test.true) (at_method (heads c.args.space.now) c.args.space.now.heads js k part.known c.args.space.now.sized.5 c.args.space.now.sized.6 part.long (c.requires.methods.0 (slice_index_or js k 0) (has_at js k c.loop-method-test.true)))) in
-    (first.after, first_stuck c.args.space.now.events v (view c.args.desk.now) (view c.loop-method.desk) (view c.pick_first.new.desk) c.args.object c.args.own.now js k c.loop-method-test.true (replicate 16 None) c.args.members.now c.loop-method.members c.args.nexts.now c.loop-method.nexts part c.in-Stuck.busy first)
+    (first.after, first_stuck c.args.space.now.events v (view c.args.desk.now) (view c.loop-method.desk) (view c.pick_first.new.desk) c.args.object c.args.own.now js k c.loop-method-test.true (replicate 16 None) c.args.members.now c.loop-method.members c.args.nexts.now c.loop-method.nexts part c.in-Stuck.busy first, first_bare c.args.space.now.events v (view c.args.desk.now) (view c.loop-method.desk) (view c.pick_first.new.desk) c.args.object c.args.own.now js k c.loop-method-test.true (replicate 16 None) c.args.members.now c.loop-method.members c.args.nexts.now c.loop-method.nexts part c.in-Stuck.busy first)
 
 pub returns-clause-gathered : goal.returns-clause-gathered
 returns-clause-gathered g c v t =
     let js = c.args.methods.now in let part = c.loop-method.invariant.3 v t in
-    (part.known, part_all c.args.space.now.events v (view c.args.desk.now) (view c.loop-method.desk) c.args.object c.args.own.now js (drop c.loop-method.method-index js) (replicate 16 None) part.known c.args.members.now c.loop-method.members c.args.nexts.now c.loop-method.nexts (drop_of_length-le js c.loop-method-test.false) part.part)
+    (part.known, part_all c.args.space.now.events v (view c.args.desk.now) (view c.loop-method.desk) c.args.object c.args.own.now js (drop c.loop-method.method-index js) (replicate 16 None) part.known c.args.members.now c.loop-method.members c.args.nexts.now c.loop-method.nexts (drop_of_length-le js c.loop-method-test.false) part.part, λ q e. absurd (part.none q e))
