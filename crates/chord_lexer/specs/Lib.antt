@@ -16,6 +16,8 @@ pub mod Marks
 pub mod Pieces
 -- what a source reads as, and where it is refused
 pub mod Reading
+-- which copies of kinds never fail
+pub mod Copies
 -- ## What only the code's own contracts use
 
 -- what the functions of the scanner say of their answers

@@ -1,7 +1,8 @@
 //! Tokens, their kinds, and where they stand in the text.
 #![tactic(auto)]
 
-ghost use Rattle.std.specs.Prelude.{◌≡◌, IfOk};
+ghost use Rattle.std.specs.Prelude.{◌≡◌, IfOk, IsOk};
+ghost use Rattle.chord_lexer.specs.Copies.{IsSurelyCopied};
 
 use crate::bytes::Bytes;
 use chord_base::text::Text;
@@ -121,9 +122,10 @@ pub enum Mark {
 }
 
 impl Kind {
-    /// An equal kind.
+    /// An equal kind. It is always made but of a literal, which is copied in memory, and of a name of more than 8 bytes, which has too many owners to be counted where it fails.
     pub fn copied(&self, alloc: Global) -> Result<Kind, AllocError>
-        ensures { IfOk result (λ kind. kind ≡ self.now) }
+        ensures equal { IfOk result (λ kind. kind ≡ self.now) }
+        ensures short { IsSurelyCopied self.now → IsOk result }
     {
         match self {
             Kind::Word(keyword) => Ok(Kind::Word(*keyword)),
