@@ -176,6 +176,13 @@ abbrev pub KeepsLists : Frames → Frames → Type 0
 KeepsLists f f' =
     (vec_capacity f'.top.slots ≡ vec_capacity f.top.slots) × (vec_capacity f'.top.stack ≡ vec_capacity f.top.stack) × (vec_capacity f'.below ≡ vec_capacity f.below) × (f'.builder ≡ f.builder)
 
+-- where no builder begins, each list of the frames has as much room as before, and the builder's frame is as it was
+abbrev pub KeepsUnbuilt : Awaited → Frames → Frames → Type 0
+KeepsUnbuilt ForNothing f f' = KeepsLists f f'
+KeepsUnbuilt ForValue f f' = KeepsLists f f'
+KeepsUnbuilt (ForObject None n) f f' = KeepsLists f f'
+KeepsUnbuilt (ForObject (Some b) n) f f' = Unit {0}
+
 -- the n last values of one list went to the end of another
 abbrev pub IsMoved : ℕ → List Value → List Value → List Value → List Value → Type 0
 IsMoved n from from' to to' =

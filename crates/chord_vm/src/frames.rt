@@ -6,7 +6,7 @@ ghost use Rattle.chord_base.specs.Copies.{IsAlwaysCopied};
 ghost use Rattle.chord_base.specs.Room.{HasGrown};
 ghost use Rattle.chord_code.specs.Slots.{first_slots};
 ghost use Rattle.chord_code.specs.Machine.{body_in_block, with_answer, with_object, init_by, goes_back, pops, Bad, Goes};
-ghost use Rattle.chord_vm.specs.Frames.{shown_frame, machine_of, frame_with, IsSpacious, IsReady, HasRoom, KeepsRoom, IsInStock, IsLeanBuilder, KeepsLists, IsMoved, IsRoomFor, AreBlank, laid};
+ghost use Rattle.chord_vm.specs.Frames.{shown_frame, machine_of, frame_with, IsSpacious, IsReady, HasRoom, KeepsRoom, IsInStock, IsLeanBuilder, KeepsLists, KeepsUnbuilt, IsMoved, IsRoomFor, AreBlank, laid};
 
 use chord_base::event::Limits;
 use chord_base::hand::Hand;
@@ -417,12 +417,14 @@ fn reserve_builder(alloc: Global, frames: &mut Frames, slots: u32) -> Result<(),
     Ok(())
 }
 
-/// Goes on with an answer. Takes no memory.
+/// Goes on with an answer. Takes no memory, and leaves the limits as they were. Where no builder begins, each list keeps its room, and the frame in stock stays there.
 #[inline(always)]
 pub fn answer(frames: &mut Frames, value: Value)
     requires ready { IsReady frames.old.awaited frames.old }
     requires fits { with_answer (machine_of frames.old) frames.old.awaited value ≢ None }
-    ensures { with_answer (machine_of frames.old) frames.old.awaited value ≡ Some (machine_of frames.new) }
+    ensures answered { with_answer (machine_of frames.old) frames.old.awaited value ≡ Some (machine_of frames.new) }
+    ensures limits { frames.new.limits ≡ frames.old.limits }
+    ensures room { KeepsUnbuilt frames.old.awaited frames.old frames.new }
 {
     match (frames.awaited, value) {
         (Awaited::ForNothing, _) => {}
@@ -439,7 +441,9 @@ pub fn answer(frames: &mut Frames, value: Value)
 fn place(frames: &mut Frames, n: u32, object: Object)
     requires ready { vec_len frames.old.top.stack < vec_capacity frames.old.top.stack }
     requires fits { with_object (machine_of frames.old) None object (pops n [] (machine_of frames.old).top.stack) ≢ None }
-    ensures { with_object (machine_of frames.old) None object (pops n [] (machine_of frames.old).top.stack) ≡ Some (machine_of frames.new) }
+    ensures placed { with_object (machine_of frames.old) None object (pops n [] (machine_of frames.old).top.stack) ≡ Some (machine_of frames.new) }
+    ensures limits { frames.new.limits ≡ frames.old.limits }
+    ensures room { KeepsLists frames.old frames.new }
 {
     let at = frames.top.stack.len() - n as usize;
     frames.top.stack.truncate(at);
@@ -451,7 +455,8 @@ fn place(frames: &mut Frames, n: u32, object: Object)
 fn build(frames: &mut Frames, block: u32, slots: u32, n: u32, object: Object)
     requires ready { IsReady (Awaited.ForObject (Some (block, slots)) n) frames.old }
     requires fits { with_object (machine_of frames.old) (Some (block, slots)) object (pops n [] (machine_of frames.old).top.stack) ≢ None }
-    ensures { with_object (machine_of frames.old) (Some (block, slots)) object (pops n [] (machine_of frames.old).top.stack) ≡ Some (machine_of frames.new) }
+    ensures built { with_object (machine_of frames.old) (Some (block, slots)) object (pops n [] (machine_of frames.old).top.stack) ≡ Some (machine_of frames.new) }
+    ensures limits { frames.new.limits ≡ frames.old.limits }
 {
     match frames.builder.take() {
         None => unreachable!(),
@@ -508,7 +513,8 @@ pub(crate) fn enter(
 /// A block whose slots are filled comes to work above the block at work, which waits for it.
 fn interrupt(frames: &mut Frames, fresh: Frame, block: usize, room: usize)
     requires { vec_len frames.old.below < vec_capacity frames.old.below }
-    ensures { machine_of frames.new ≡ record { top = record { block = block; place = 0; room = room; stack = []; slots = fresh.slots.items }; below = (machine_of frames.old).top ∷ (machine_of frames.old).below; turns = frames.old.turns } }
+    ensures interrupted { machine_of frames.new ≡ record { top = record { block = block; place = 0; room = room; stack = []; slots = fresh.slots.items }; below = (machine_of frames.old).top ∷ (machine_of frames.old).below; turns = frames.old.turns } }
+    ensures limits { frames.new.limits ≡ frames.old.limits }
 {
     let mut fresh = fresh;
     clear(&mut fresh.stack);

@@ -6,7 +6,7 @@ ghost use Rattle.chord_base.specs.Operators.{text_of};
 ghost use Rattle.chord_code.specs.Valid.{IsValid};
 ghost use Rattle.chord_code.specs.Within.{IsInstructionWithin};
 ghost use Rattle.chord_code.specs.Machine.{Did, Goes, step as step_of, Bad, act, operate as operate_of, negates, denies, skips, again as again_of, if_deeper, makes_object, builder_of, init_by, fetch, ComesToAsk, loads, store_top, pops, pop_top, send_by, call_by, print_top, end_with};
-ghost use Rattle.chord_vm.specs.Frames.{shown_frame, machine_of, HasStepped, frame_with, Advanced, changes_block, instructions_in, with_pushed, takes_memory, RunsOut};
+ghost use Rattle.chord_vm.specs.Frames.{shown_frame, machine_of, HasStepped, frame_with, Advanced, changes_block, instructions_in, with_pushed, takes_memory, IsInStock, RunsOut};
 ghost use Rattle.chord_vm.specs.declared.frames.Frames.{Frames as TheFrames};
 ghost use Rattle.chord_vm.specs.declared.ask.Ask.{Ask as AnAsk};
 
@@ -90,6 +90,7 @@ fn step(
     ensures unasked { result ≢ After.Asks → asked.new ≡ asked.old }
     ensures stays { result ≡ After.Goes → changes_block instruction.now ≡ false }
     ensures lean { result ≡ After.Fails → takes_memory instruction.now ≡ true }
+    ensures stocked { instruction.now ≡ Instruction.Back → IsInStock frames.old.top frames.new.builder }
 {
     match instruction {
         Instruction::Int(number) => return went(push_value(frames, Value::Int(*number))),

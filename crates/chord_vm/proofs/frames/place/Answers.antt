@@ -13,8 +13,8 @@ overflow_sub-at c =
     let r = with_object_pops (machine_of c.args.frames.now) None c.args.object c.args.n c.args.frames.now.top.stack.items c.requires.fits in
     omega (arith, r, c.len.ensures, c.args.frames.now.top.stack.ok.0)
 
-pub returns : goal.returns
-returns c =
+pub returns-clause-placed : goal.returns-clause-placed
+returns-clause-placed c =
     let items = c.args.frames.now.top.stack.items in
     let r = with_object_pops (machine_of c.args.frames.now) None c.args.object c.args.n items c.requires.fits in
     let k = c.len.result - c.args.n in

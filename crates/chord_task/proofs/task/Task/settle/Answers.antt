@@ -44,7 +44,7 @@ returns-in-Make-clause-settled c = λ t d.
       a,
       put,
       settled_gave c.args.code.now t c.args.self.now c.args.number (what_of_ask a) c.in-Some.body x (what_of_ask a) x.given c.append_made.new.past _ refl
-          (x.runs, subst (λ (f : Frames). with_answer (machine_of f) f.awaited (a_value.Ref (record { number = c.args.number; class = c.in-Make.class })) ≡ Some (machine_of c.answer.new.frames)) c.deref_mut.ensures.value c.answer.ensures)
+          (x.runs, subst (λ (f : Frames). with_answer (machine_of f) f.awaited (a_value.Ref (record { number = c.args.number; class = c.in-Make.class })) ≡ Some (machine_of c.answer.new.frames)) c.deref_mut.ensures.value c.answer.ensures.answered)
           c.append_made.ensures.past,
       refl,
     )
