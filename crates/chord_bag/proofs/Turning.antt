@@ -1,5 +1,5 @@
 -- One look after another.
-use Rattle.std.proofs.Common.{◌≡◌, ◌≢◌, inl, inr, ℕ, ◌+◌, ◌<◌, Bool, true, false, ◌||◌, List, [], ◌∷◌, ◌++◌, map, refl, sym, ap, ◌∙◌, subst, arith, Option, Some, None, IfSome, if◌then◌else◌}
+use Rattle.std.proofs.Common.{◌≡◌, ◌≢◌, inl, inr, ℕ, suc, ◌+◌, ◌<◌, ◌≤◌, Bool, true, false, ◌||◌, List, [], ◌∷◌, ◌++◌, length, map, refl, sym, ap, ◌∙◌, subst, arith, Option, Some, None, IfSome, if◌then◌else◌}
 use mathlib.Core.Path.{Path}
 use Rattle.std.proofs.lemmas.Bool.{eq-eqb}
 use Rattle.chord_word.specs.declared.cells.Cell.{Cell}
@@ -13,6 +13,7 @@ use Rattle.chord_space.specs.declared.space.Space.{Space}
 use Rattle.chord_space.specs.Desks.{space_code, space_limits, program_of}
 use Rattle.chord_space.specs.Ruled.{LooksAtHead}
 use Rattle.chord_rule.specs.declared.view.Duty.{Duty}
+use Rattle.chord_rule.specs.declared.view.HeadLook.{HeadLook}
 use Rattle.chord_rule.specs.declared.view.Look.{Look}
 use Rattle.chord_rule.specs.declared.view.Looked.{Looked}
 use Rattle.chord_rule.specs.declared.view.View.{View}
@@ -29,7 +30,7 @@ use Rattle.chord_bag.specs.declared.walk.Sought.TheVariants.{Found, Bare, Busy}
 use Rattle.chord_bag.specs.declared.walk.Turn.{Turn}
 use Rattle.chord_bag.specs.declared.walk.Turn.TheVariants.{Over, On, Past}
 use Rattle.chord_bag.specs.Reads.{AllAt, AllRead, HasRead, KeepsEnds, IsOnlyLooks, with_looks, is_claimed, is_passed, after_cell, messages_and_bags}
-use Rattle.chord_bag.specs.Seeking.{IsSought, IsReadUnconsumed, IsTidy, KeepsHeads, BeganAtHead, newest_linked, newest_looks}
+use Rattle.chord_bag.specs.Seeking.{IsSought, IsReadUnconsumed, IsTidy, KeepsHeads, HasFewHeads, BeganAtHead, newest_linked, newest_looks}
 use Rattle.chord_bag.specs.Walking.{Going, IsGoing, IsTurn, PassesConsumed, IsAtHead, ComesToTurn, gone_so_far}
 use Rattle.chord_bag.proofs.Walks.{all_start, all_move, head_keeps, cell_keeps, keeps_on, head_keeps_messages, cell_keeps_messages}
 
@@ -81,6 +82,10 @@ module _ (n k : ℕ) (v u : View) (i : ℕ) (busy : Option ℕ) (s : Going n k v
   only : (c : Word) → IsOnlyLooks v (looked_cell u i c)
   only c = only_more v u (after_cell i c u.duties) (looked_cell u i c).looked s.only (cell_keeps_messages i c u.duties)
 
+  -- the heads are left
+  heads : (w : View) → w.looked.heads ≡ u.looked.heads → HasFewHeads (suc (length s.way.looks) + 1) v w
+  heads w same = let few = s.heads.2 in (s.heads.0, same ∙ s.heads.1, omega (arith, few))
+
   -- the message to which the walk has come is below n
   pub low : i < n
   low = (s.room s.way v.looked.ways s.more i s.at).0
@@ -98,6 +103,7 @@ module _ (n k : ℕ) (v u : View) (i : ℕ) (busy : Option ℕ) (s : Going n k v
     room = room;
     others = subst (λ (z : View). KeepsEnds k v.duties z.duties) (sym is) (others word);
     only = subst (λ (z : View). IsOnlyLooks v z) (sym is) (only word);
+    heads = heads w (ap (λ (z : View). z.looked.heads) is);
     alone = s.alone;
   }
     where
@@ -112,11 +118,11 @@ module _ (n k : ℕ) (v u : View) (i : ℕ) (busy : Option ℕ) (s : Going n k v
   pub seek_turned : (next : Option ℕ) (c : Cell) → IsLinkedCell c → (IsArmed c → (x : ℕ) → next ≡ Some x → x < n) → (IsAloneDesk u → IsSettledCell c) → HasLooksLeft n (looked_cell u i (record { cell = c; next = next })).looked.ways
       → ComesToTurn n k v (looked_cell u i (record { cell = c; next = next })) busy (by_cell i busy next c)
   seek_turned next Pending l inside a room = let c : Word = record { cell = Pending; next = next } in
-      record { way = gone_on s.way i c; more = more c; seen = seen c; bag = s.bag; answer = (s.way.looks, refl, s.passed); below = (low, inside tt); walked = tt; others = others c; only = only c; alone = λ _. tt }
+      record { way = gone_on s.way i c; more = more c; seen = seen c; bag = s.bag; answer = (s.way.looks, refl, s.passed); below = (low, inside tt); walked = tt; others = others c; only = only c; heads = heads (looked_cell u i c) refl; alone = λ _. tt }
   seek_turned next Empty l inside a room = let c : Word = record { cell = Empty; next = next } in
-      record { way = gone_on s.way i c; more = more c; seen = seen c; bag = s.bag; answer = inl (next, (s.way.looks, refl, s.passed)); below = low; walked = tt; others = others c; only = only c; alone = λ q. a (still_alone v u s.only q) }
+      record { way = gone_on s.way i c; more = more c; seen = seen c; bag = s.bag; answer = inl (next, (s.way.looks, refl, s.passed)); below = low; walked = tt; others = others c; only = only c; heads = heads (looked_cell u i c) refl; alone = λ q. a (still_alone v u s.only q) }
   seek_turned next Claimed l inside a room = let c : Word = record { cell = Claimed; next = next } in
-      record { way = gone_on s.way i c; more = more c; seen = seen c; bag = s.bag; at = refl; passed = (refl, s.passed); going = (inl (refl, refl), low); room = room; others = others c; only = only c; alone = λ q. absurd (a (still_alone v u s.only q)) }
+      record { way = gone_on s.way i c; more = more c; seen = seen c; bag = s.bag; at = refl; passed = (refl, s.passed); going = (inl (refl, refl), low); room = room; others = others c; only = only c; heads = heads (looked_cell u i c) refl; alone = λ q. absurd (a (still_alone v u s.only q)) }
   seek_turned next Consumed l inside a room = down next Consumed refl refl (looked_cell u i (record { cell = Consumed; next = next })) refl refl room
   seek_turned next (Woken q) l inside a room = down next (Woken q) refl refl (looked_cell u i (record { cell = Woken q; next = next })) refl refl room
   seek_turned next Ready l inside a room = absurd l
@@ -207,8 +213,12 @@ seek_starts n k v w linked head is room = subst (λ (z : View). Going n k v z he
   room = subst (λ (z : View). HasLooksLeft n z.looked.ways) is room;
   others = head_keeps k head v.duties;
   only = record { frame = refl; duties = head_keeps_messages k head v.duties };
+  heads = (record { head = head_number k; message = head } ∷ [], refl, one);
   alone = λ _. refl;
 }
+  where
+    one : 1 ≤ 0 + 1
+    one = omega arith
 
 -- where each look read a cell that is passed, the way was not cut short
 passed_whole : (ls : List Look) → AllRead is_passed ls → IsCutShort ls → ⊥
@@ -227,9 +237,17 @@ place_below n k v u place busy s = below place s.at
 pub walk_at : (n k : ℕ) (v u : View) (i : ℕ) (busy : Option ℕ) → Going n k v u (Some i) busy → IsAt i u.looked.ways
 walk_at n k v u i busy s = subst (λ (ws : List Way). IsAt i ws) (sym s.more) s.at
 
+-- behind a look a head may be read or written
+pub head_left : (n k : ℕ) (v u w : View) (i : ℕ) (place busy : Option ℕ) (s : Going n k v u (Some i) busy) (t : Going n k v w place busy) → w.looked.heads ≡ u.looked.heads → gone_so_far w.looked.ways ≡ gone_so_far u.looked.ways + 1 → HasFewHeads (length t.way.looks) v w
+head_left n k v u w i place busy s t same longer =
+    let few = s.heads.2 in
+    let before : gone_so_far u.looked.ways ≡ length s.way.looks = ap gone_so_far s.more in
+    let after : gone_so_far w.looked.ways ≡ length t.way.looks = ap gone_so_far t.more in
+    (s.heads.0, same ∙ s.heads.1, omega (arith, few, before, after, longer))
+
 -- what is read of a head leaves a walk as it is
-pub head_read : (n k : ℕ) (v u : View) (place busy : Option ℕ) (head : ℕ) (h : Option ℕ) → Going n k v u place busy → Going n k v (saw_head u head h) place busy
-head_read n k v u place busy head h s = record {
+pub head_read : (n k : ℕ) (v u : View) (place busy : Option ℕ) (head : ℕ) (h : Option ℕ) (s : Going n k v u place busy) → HasFewHeads (length s.way.looks) v u → Going n k v (saw_head u head h) place busy
+head_read n k v u place busy head h s few = record {
   way = s.way;
   more = s.more;
   seen = s.seen;
@@ -240,9 +258,13 @@ head_read n k v u place busy head h s = record {
   room = s.room;
   others = s.others;
   only = only_more v u u.duties (saw_head u head h).looked s.only refl;
+  heads = (record { head = head; message = h } ∷ few.0, ap (λ (hs : List HeadLook). record { head = head; message = h } ∷ hs) few.1, one_more);
   alone = s.alone;
 }
   where
+    one_more : suc (length few.0) ≤ length s.way.looks + 1
+    one_more = let fits = few.2 in omega (arith, fits)
+
     going : (b : Option ℕ) → IsGoing n s.way u.duties b → IsGoing n s.way (saw_head u head h).duties b
     going None g = g
     going (Some i) g = g
@@ -293,8 +315,8 @@ own_keeps_heads k v u w head is kept = λ q h ne last. subst (λ (z : View). Las
 
 -- a walk that has come to its end
 pub walk_ended : (n k : ℕ) (v w : View) (busy : Option ℕ) → Going n k v w None busy → IsSought n k v w (seek_ended busy)
-walk_ended n k v w None s = record { way = s.way; more = s.more; seen = s.seen; bag = s.bag; answer = ((s.at, passed_whole s.way.looks s.passed), s.going.0); below = tt; walked = subst (λ (z : ℕ). AllAt z None w.duties) s.bag (subst (λ (z : Option ℕ). AllAt s.way.bag z w.duties) s.at s.going.1); others = s.others; only = s.only; alone = λ _. tt }
-walk_ended n k v w (Some i) s = record { way = s.way; more = s.more; seen = s.seen; bag = s.bag; answer = inr ((s.at, passed_whole s.way.looks s.passed), s.passed, s.going.0); below = s.going.1; walked = tt; others = s.others; only = s.only; alone = λ a. let e : Path (Option ℕ) (Some i) None = s.alone a in absurd (cc) }
+walk_ended n k v w None s = record { way = s.way; more = s.more; seen = s.seen; bag = s.bag; answer = ((s.at, passed_whole s.way.looks s.passed), s.going.0); below = tt; walked = subst (λ (z : ℕ). AllAt z None w.duties) s.bag (subst (λ (z : Option ℕ). AllAt s.way.bag z w.duties) s.at s.going.1); others = s.others; only = s.only; heads = s.heads; alone = λ _. tt }
+walk_ended n k v w (Some i) s = record { way = s.way; more = s.more; seen = s.seen; bag = s.bag; answer = inr ((s.at, passed_whole s.way.looks s.passed), s.passed, s.going.0); below = s.going.1; walked = tt; others = s.others; only = s.only; heads = s.heads; alone = λ a. let e : Path (Option ℕ) (Some i) None = s.alone a in absurd (cc) }
 
 module _ {P : Type 0} (entries : P → List Entry) (arguments : P → List value.Value) (keeps_to : P → Parts → Limits → Type 0) (space : Space P) where
   -- a look at a head begins the newest way

@@ -1,8 +1,9 @@
 -- What the answers of a walk through a bag say.
-use Rattle.std.specs.Prelude.{◌≡◌, ◌≢◌, ℕ, ◌<◌, ◌⊎◌, List, [], ◌∷◌, ◌++◌, Option, Some, None, IfSome}
+use Rattle.std.specs.Prelude.{◌≡◌, ◌≢◌, ℕ, ◌+◌, ◌<◌, ◌≤◌, ◌⊎◌, List, [], ◌∷◌, ◌++◌, length, Option, Some, None, IfSome}
 use Rattle.chord_word.specs.declared.cells.Cell.{Cell}
 use Rattle.chord_word.specs.declared.cells.Cell.TheVariants.{Empty, Pending, Claimed, Consumed}
 use Rattle.chord_rule.specs.declared.view.Duty.{Duty}
+use Rattle.chord_rule.specs.declared.view.HeadLook.{HeadLook}
 use Rattle.chord_rule.specs.declared.view.Look.{Look}
 use Rattle.chord_rule.specs.declared.view.View.{View}
 use Rattle.chord_rule.specs.declared.view.Way.{Way}
@@ -72,6 +73,10 @@ IsTidy k v = (head : Option ℕ) × LastHead (head_number k) head v.looked.heads
 abbrev pub KeepsHeads : ℕ → View → View → Type 0
 KeepsHeads k v w = (q : ℕ) (h : Option ℕ) → (q ≡ head_number k → ⊥) → LastHead q h v.looked.heads → LastHead q h w.looked.heads
 
+-- between the views v and w heads were read or written n times at the most
+abbrev pub HasFewHeads : ℕ → View → View → Type 0
+HasFewHeads n v w = (hs : List HeadLook) × (w.looked.heads ≡ hs ++ v.looked.heads) × (length hs ≤ n)
+
 -- the newest way of the view w began at a moment under the rule, at which the desk had the view v, with a look at the head of the bag k; it knows the messages that had been linked there
 abbrev pub BeganAtHead : {P : Type 0} → (P → List Entry) → (P → List value.Value) → (P → Parts → Limits → Type 0) → Space P → View → View → ℕ → Type 0
 BeganAtHead entries arguments keeps_to space v w k = (head : Option ℕ) × WasHead entries arguments (λ q. keeps_to q (space_code space) (space_limits space)) (program_of space) (space_limits space).events v (head_number k) head (newest_linked w.looked.ways)
@@ -92,5 +97,7 @@ pub record IsSought (n k : ℕ) (v w : View) (s : Sought) : Type 0 where
   pub walked : IsWalked k w.duties s
   pub others : KeepsEnds k v.duties w.duties
   pub only : IsOnlyLooks v w
+  -- heads are read or written once at the walk's begin, and once more a look at the most
+  pub heads : HasFewHeads (length way.looks + 1) v w
   -- on a first desk alone no message is in another hand
   pub alone : IsAloneDesk v → IsNotBusy s

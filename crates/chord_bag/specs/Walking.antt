@@ -13,7 +13,7 @@ use Rattle.chord_rule.specs.Ways.{IsAloneDesk, IsAt, HasLooksLeft, WentPast}
 use Rattle.chord_bag.specs.declared.walk.Turn.{Turn}
 use Rattle.chord_bag.specs.declared.walk.Turn.TheVariants.{Over, On, Past}
 use Rattle.chord_bag.specs.Reads.{AllRead, HasRead, AllAt, KeepsEnds, IsOnlyLooks, is_passed}
-use Rattle.chord_bag.specs.Seeking.{IsSought, IsTidy, newest_linked, newest_looks}
+use Rattle.chord_bag.specs.Seeking.{IsSought, IsTidy, HasFewHeads, newest_linked, newest_looks}
 
 -- how many looks the newest way has made
 abbrev pub gone_so_far : List Way → ℕ
@@ -37,6 +37,7 @@ pub record Going (n k : ℕ) (v w : View) (place busy : Option ℕ) : Type 0 whe
   pub room : HasLooksLeft n w.looked.ways
   pub others : KeepsEnds k v.duties w.duties
   pub only : IsOnlyLooks v w
+  pub heads : HasFewHeads (length way.looks + 1) v w
   pub alone : IsAloneDesk v → busy ≡ None
 
 -- a walk on which this message was read claimed is over with this answer, or goes on

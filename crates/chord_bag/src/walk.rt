@@ -77,6 +77,7 @@ fn tidy<P: Carry>(
 /// so that no later walk meets them. The one way that it went tells its answer. On a first desk that has lent none and has nothing
 /// in hand it is never Busy, and the bag's head then leads nowhere, or to a message that the way read and that is not consumed. On
 /// a desk without a claim, what was read claimed is claimed by another. The heads of other bags are left as they were last read.
+/// Heads are read or written once at the walk's begin, and once more a look at the most.
 ///
 /// The way knows the messages that had been linked in the bag when its head was read. Bare, or Busy with a claimed message, the
 /// way went to the bag's end, and so each of these was looked at on it or is consumed (`chord_space::laws::ways_miss_none`).

@@ -27,7 +27,8 @@ pub fn pending_messages<P: Carry>()
 
 /// A way through a bag misses no message that had been linked there when the desk read its head, as `Space::look_head` tells:
 /// each is consumed, or the desk has looked at it on this way, or the way has still to come to it, or was cut short by a message
-/// that was not armed. So where the way went to the end of the bag, each is consumed or was looked at.
+/// that was not armed. So where the way went to the end of the bag, each is consumed or was looked at. A message to which the
+/// way has come is in the bag.
 pub fn ways_miss_none<P: Carry>()
     ensures ways { (code : Parts) (limits : Limits) → WaysMissNone P.entries P.arguments (λ q. P.keeps_to q code limits) }
     ensures whole { (code : Parts) (limits : Limits) → WholeWaysMissNone P.entries P.arguments (λ q. P.keeps_to q code limits) }

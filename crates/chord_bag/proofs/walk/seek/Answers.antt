@@ -7,7 +7,7 @@ use Rattle.chord_space.specs.Desks.{view}
 use Rattle.chord_bag.specs.declared.walk.Turn.{Turn}
 use Rattle.chord_bag.specs.Seeking.{newest_linked}
 use Rattle.chord_bag.specs.Walking.{Going, ComesToTurn, IsAtHead, PassesConsumed, gone_so_far}
-use Rattle.chord_bag.proofs.Turning.{seek_starts, room_left, low, walk_ended, head_began, still_began, place_below, walk_at, head_read, still_alone, still_tidy, tidy_behind, tidy_at_end, begun_keeps_heads, still_keeps_heads, own_keeps_heads}
+use Rattle.chord_bag.proofs.Turning.{seek_starts, room_left, low, walk_ended, head_began, still_began, place_below, walk_at, head_left, head_read, still_alone, still_tidy, tidy_behind, tidy_at_end, begun_keeps_heads, still_keeps_heads, own_keeps_heads}
 use Rattle.chord_bag.proofs.walk.seek.Goals as goal
 
 pub loop-place-init : goal.loop-place-init
@@ -100,7 +100,7 @@ loop-place-preserved-then-at_head g c =
     let after = subst (λ (t : Turn). ComesToTurn n k v (view c.look_on.new.desk) c.loop-place.busy t) c.in-Past.is (e.turned.comes k v s) in (
       t.desk.0 ∙ e.desk.0 ∙ i.0,
       (t.desk.0 ∙ e.desk.0 ∙ i.1.0, t.desk.1 ∙ e.desk.1 ∙ i.1.1),
-      subst (λ (z : View). Going n k v z c.in-Past.next c.loop-place.busy) (sym t.looked.1) (head_read n k v (view c.look_on.new.desk) c.in-Past.next c.loop-place.busy (head_number k) t.looked.0 after),
+      subst (λ (z : View). Going n k v z c.in-Past.next c.loop-place.busy) (sym t.looked.1) (head_read n k v (view c.look_on.new.desk) c.in-Past.next c.loop-place.busy (head_number k) t.looked.0 after (head_left n k v u (view c.look_on.new.desk) c.in-Some.i c.in-Past.next c.loop-place.busy s after e.turned.heads (e.turned.longer k v s))),
       still_began g.P.Carry.entries g.P.Carry.arguments g.P.Carry.keeps_to c.args.space.now v u (view c.tidy-at_head.new.desk) k (ap (λ (z : View). newest_linked z.looked.ways) t.looked.1 ∙ e.turned.linked) i.3,
       (λ a. let last = subst (λ (z : Bool × Option ℕ). IsAtHead k u z.1 z.0) (λ j. (c.if-at_head.true j, c.in-Some.is j)) (i.4 a) in
           let moved = t.alone (still_alone v (view c.look_on.new.desk) after.only a) (subst (LastHead (head_number k) (Some c.in-Some.i)) (sym e.turned.heads) last) in
