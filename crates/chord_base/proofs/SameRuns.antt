@@ -8,7 +8,7 @@ use Rattle.chord_base.specs.declared.event.Entry.{Entry}
 use Rattle.chord_base.specs.Meaning.{Program, Start, Chord, Asked}
 use Rattle.chord_base.specs.Messages.{maker}
 use Rattle.chord_base.specs.Bodies.{Doing, Absent, Unplaced, Ready, Waits, Over, ask_depth, waiting, served, begun, own, heard, doing, serves, asked}
-use Rattle.chord_base.specs.Machine.{IsPast, Comes}
+use Rattle.chord_base.specs.Machine.{IsPast, IsFinal, Comes}
 use Rattle.chord_base.specs.Agreement.{AgreeInRuns, SameRuns}
 
 -- programs that agree in runs say the same of the call that a firing serves
@@ -91,16 +91,29 @@ comes_back p q a h past n b (Called o j vs) c = (c.0, rw (asks_same p q a h past
 comes_back p q a h past n b (Printed t) c = (c.0, rw (asks_same p q a h past b) c.1)
 comes_back p q a h past n b (Ended x) c = (c.0, rw (asks_same p q a h past b) c.1)
 
--- of two programs that agree in runs each past of the one is a past of the other
+-- of two programs that agree in runs each past of the first is one of the second
 pub past_same : (p q : Program) → AgreeInRuns p q → (h : List Entry) → IsPast p h → IsPast q h
 past_same p q a [] past = tt
 past_same p q a (e ∷ h) past = (past_same p q a h past.0, record { numbered = past.1.numbered; comes = comes_on p q a h past.0 e.number e.body e.what past.1.comes })
 
+-- and each past of the second is one of the first
+past_back : (p q : Program) → AgreeInRuns p q → (h : List Entry) → IsPast q h → IsPast p h
+past_back p q a [] past = tt
+past_back p q a (e ∷ h) past = let before : IsPast p h = past_back p q a h past.0 in (before, record { numbered = past.1.numbered; comes = comes_back p q a h before e.number e.body e.what past.1.comes })
+
+-- a final past of the first is one of the second
+final_same : (p q : Program) → AgreeInRuns p q → (h : List Entry) → IsFinal p h → IsFinal q h
+final_same p q a h f = record {
+  past = past_same p q a h f.past;
+  nothing = λ e may. f.nothing e (record { numbered = may.numbered; comes = comes_back p q a h f.past e.number e.body e.what may.comes });
+}
+
+-- and a final past of the second is one of the first
+final_back : (p q : Program) → AgreeInRuns p q → (h : List Entry) → IsFinal q h → IsFinal p h
+final_back p q a h f = let past : IsPast p h = past_back p q a h f.past in record {
+  past = past;
+  nothing = λ e may. f.nothing e (record { numbered = may.numbered; comes = comes_on p q a h past e.number e.body e.what may.comes });
+}
+
 pub same_runs : SameRuns
-same_runs p q h a = (
-  past_same p q a h,
-  λ f. record {
-    past = past_same p q a h f.past;
-    nothing = λ e may. f.nothing e (record { numbered = may.numbered; comes = comes_back p q a h f.past e.number e.body e.what may.comes });
-  },
-)
+same_runs p q h a = ((past_same p q a h, past_back p q a h), (final_same p q a h, final_back p q a h))

@@ -3,7 +3,7 @@
 
 ghost use Rattle.chord_base.specs.Agreement.{SameRuns};
 
-/// Agreement: where the bodies of a program ask the same as those of another in every run of the first, each run of the first is one of the other, and each complete run a complete one.
+/// Agreement: where the bodies of a program ask the same as those of another in every run of the first, a history is a run of the first exactly where it is one of the other, and a complete run exactly where it is a complete one.
 pub fn same_runs()
     ensures { SameRuns }
 {}

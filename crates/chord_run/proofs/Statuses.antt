@@ -13,9 +13,9 @@ use Rattle.chord_run.proofs.Causes.{status_cases}
 -- two programs that agree in their runs give a journal the same status
 pub same_status : SameRuns → (p q : Program) (events : ℕ) (journal : List Entry) (status : ℕ) → AgreeInRuns p q → HasStatus p events journal status → HasStatus q events journal status
 same_status law p q events journal status agree (inl c) =
-    inl (record { complete = (law p q (reverse journal) agree).1 c.complete; within = c.within; status_is = c.status_is })
+    inl (record { complete = (law p q (reverse journal) agree).1.0 c.complete; within = c.within; status_is = c.status_is })
 same_status law p q events journal status agree (inr f) =
-    let longer = (law p q (f.0.next ∷ reverse journal) agree).0 (f.0.run, f.0.follows) in
+    let longer = (law p q (f.0.next ∷ reverse journal) agree).0.0 (f.0.run, f.0.follows) in
     inr (record { run = longer.0; filled = f.0.filled; next = f.0.next; follows = longer.1 }, f.1)
 
 -- where one or another is not, neither is
