@@ -19,7 +19,7 @@ fits sig _ _ = false
 abbrev pub Scope : Type 0
 Scope = List (Option StaticType)
 
--- the type of what an operator gives, where its operands fit it
+-- the type of what an operator gives, where its operands fit it; two objects of any classes do, and which of them a source may compare is a rule of chord_classes (C15)
 abbrev pub operation_result : Signatures → Operation → StaticType → StaticType → Option StaticType
 operation_result sig Add ty.Int ty.Int = Some ty.Int
 operation_result sig Subtract ty.Int ty.Int = Some ty.Int

@@ -20,7 +20,7 @@ use Rattle.chord_code.specs.declared.awaited.Awaited.TheVariants.{ForNothing, Fo
 use Rattle.chord_code.specs.Machine.{Machine, Waiting, Did, Goes, Asking, Bad, with_answer, body_in_block}
 use Rattle.chord_code.specs.Fuel.{comes_to}
 
--- what an ask waits for
+-- the kind of answer that an ask waits for; an end waits for none
 abbrev pub IsAsked : What → Awaited → Type 0
 IsAsked (Made c) p = (b : Option (ℕ × ℕ)) × (n : ℕ) × (p ≡ ForObject b n)
 IsAsked (Sent o j vs) p = p ≡ ForNothing

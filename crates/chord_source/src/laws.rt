@@ -7,20 +7,20 @@ ghost use Rattle.chord_source.specs.Sources.{SoundRuns};
 ghost use Rattle.chord_source.specs.Traps.{RunsKeepTraps, SourcesHandTrapsOn};
 ghost use Rattle.chord_source.specs.TypedRuns.{RunsKeepTypes, RunsPlayWell};
 
-/// A body that keeps to its static types and begins as it may never goes wrong: its messages have the arguments of their
-/// methods, and a value that it gives has its result's type.
+/// Where all bodies keep to their static types and the plan of the classes is as it must be, a body that begins as it may never
+/// goes wrong: its messages have the arguments of their methods, and a value that it gives has its result's type.
 pub fn good()
     ensures { GoodPlays }
 {}
 
-/// A body that keeps to its static types and begins as it may comes to an end after finitely many asks, whatever fits they
-/// are answered.
+/// There a body that begins as it may comes to an end after finitely many asks, whatever fits they are answered.
 pub fn ends()
     ensures { EachEnds }
 {}
 
 /// The join machine of such a source is sound: in every run, what each body does is defined and each message has the kind of
-/// its method. Each of its chords has one to eight methods, all different and at most one of them synchronous.
+/// its method; that there is such a method `typed` says. Each of its chords has one to eight methods, all different and at most
+/// one of them synchronous.
 pub fn sound()
     ensures { MachinesAreSound }
 {}

@@ -7,7 +7,7 @@ ghost use Rattle.chord_tests.specs.Walked.{class_number, with_local, example_spo
 
 use chord_tree::laws::walks;
 
-// The walk comes by each expression, item and member of the program once, after its parts.
+// The walk comes by each expression, item and member of the program once, after its parts; no `if` and no `while` is among them.
 fn walk_of_the_example()
     ensures { spots with_local class_number example ≡ example_spots }
 {}

@@ -1,4 +1,4 @@
--- A walk over a program: each expression and each statement once, after its parts and in the order of the text.
+-- A walk over a program in the order of the text: each expression and each statement once, after its parts, but an `if` and a `while` behind the condition and before what it governs.
 use Rattle.std.specs.Prelude.{ℕ, ◌+◌, List, [], ◌∷◌, ◌++◌, flat_map}
 use Rattle.chord_tree.specs.Tree.{StmtTree, BlockTree, ItemTrees, ItemTree, AssignStmt, CallStmt, MethodCallStmt, ThisCallStmt, NewStmt, BlockStmt, EmptyStmt, IfStmt, IfElseStmt, WhileStmt, ReturnStmt, ReturnValueStmt, MakeBlock, NoItems, MoreItems, LocalItem, StmtItem, HeaderTree, MemberTree, ConstructorMember, ChordMember, ClassTree, ProgramTree, ExprTree}
 use Rattle.chord_tree.specs.Terms.{Term, Terms, VariableTerm, ThisTerm, NumberTerm, LiteralTerm, BoolTerm, GroupTerm, MinusTerm, NotTerm, OperationTerm, NewTerm, OwnCallTerm, CallTerm, NoTerms, MoreTerms, term, stands_as}
@@ -68,7 +68,7 @@ module _ {Around Note : Type 0} (after : Around → ItemTree → Around) (at_ter
   over_call around stmt = over_term around Alone (stands_as stmt (ThisTerm 0))
 
   abbrev mutual
-    -- a condition comes before the branches; the second branch comes after the first
+    -- a statement after its parts, but an `if` and a `while` between its condition and its branches; the second branch comes after the first
     pub over_stmt : Around → StmtTree → List Note
     over_stmt around (AssignStmt name assign value) = over_value around value ++ at_item around (StmtItem (AssignStmt name assign value))
     over_stmt around (CallStmt name actuals calls) = over_call around (CallStmt name actuals calls) ++ at_item around (StmtItem (CallStmt name actuals calls))

@@ -143,7 +143,7 @@ fn typed_by<'t, 'a>(
 
 /// The bodies of a program with all names resolved, or its break among the rules on names and types.
 ///
-/// `Rule` comes exactly where one of these rules is broken: C02, C14 to C20 and C22 to C24. It is the one at the least token, and of several there the least rule. Takes time linear in the program, but for the logarithm of a look-up by name. No chain in a body begins with a chain of its own kind.
+/// `Rule` comes exactly where one of these rules is broken, C02, C14 to C20 and C22 to C24, unless memory runs out. It is the one at the least token, and of several there the least rule. Takes time linear in the program, but for the logarithm of a look-up by name. No chain in a body begins with a chain of its own kind.
 pub fn type_program(alloc: Global, program: &Program) -> Result<Typed, TypeFault>
     ensures typed { IfOk result (λ typed. map view_body typed ≡ bodies_of (tree_of program.now)) }
     ensures flat { IfOk result (λ typed. AreFlat typed) }
