@@ -188,7 +188,7 @@ module _ {P : Type 0} (entries : P → List Entry) (arguments : P → List value
 
   -- what the draw of such a number tells: it is above all that the desk kept, and above each object that the new entry names
   pub drawn_above : (b : ℕ) (what : What) → m.count < n → (h : List Entry) → IsPast p (entry m.count b what ∷ h) → length h ≡ m.count → AllBelow m.count v.kept × ((o : Object) → Names what o → o.number < m.count)
-  drawn_above b what room h past long = (standing.desk_below entries arguments keeps_to p n m u law.stands room id v at, λ o names. let l = names_low p (entry m.count b what) h law.tabled past o names in omega arith)
+  drawn_above b what room h past long = (standing.desk_below entries arguments keeps_to p n m u law.stands id v at, λ o names. let l = names_low p (entry m.count b what) h law.tabled past o names in omega arith)
 
   -- the first desk begins Main: it has neither drawn nor been split
   pub agrees_begun : 0 < n → v.first ≡ true → v.drawn ≡ false → v.splits ≡ 0

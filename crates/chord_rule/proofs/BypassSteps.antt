@@ -184,8 +184,8 @@ module _ {P : Type 0} (entries : P → List Entry) (arguments : P → List value
         duties = base.duties;
         looks = base.looks;
       })
-      refl refl refl (omega arith) (λ j a. a) (λ j c. c) (λ j k b. (b, refl)) (λ j k b. inl b) whole.woken.names whole.places
-      (record { armed = mine.armed; ways = mine.ways; told = mine.told; ended = λ e. absurd (let z : true ≡ false = sym e ∙ here in cc) })
+      refl refl refl (omega arith) (λ j a. a) (λ j c. c) (λ j k b. (b, refl)) (λ j k b. inl b) whole.woken.none whole.places
+      (record { armed = mine.armed; ways = mine.ways; told = mine.told; counted = mine.counted; ended = λ e. absurd (let z : true ≡ false = sym e ∙ here in cc) })
       (wholes.none_drawn entries arguments keeps_to p n small m u whole id v at here w refl)
       (λ r. remembers_head m.count m.heads m.cells v.looked r head to)
     where
@@ -209,11 +209,12 @@ module _ {P : Type 0} (entries : P → List Entry) (arguments : P → List value
       (wholes.saw_too entries arguments keeps_to p n small m u whole id v at here m' u' v i (consumed_word to) (put_here m.cells i (consumed_word to))
       (subst (λ (vs : List View). Agrees entries arguments keeps_to p n (record m' { views = vs }) u') (sym (set_again m.views id v at)) agrees))
       refl refl refl (omega arith) (stays_armed m.cells u.order i from to is) (stays_consumed m.cells u.order i from to is) (λ j k b. (b, refl)) (λ j k b. inl b)
-      (λ q x e. put_all m.cells i (consumed_word to) (λ q c. c.cell ≡ a_cell.Woken x → IsArmed (cell_of (put m.cells i (consumed_word to)) x)) q (λ s. absurd (cc)) (λ ne s. stays_armed m.cells u.order i from to is x (whole.woken.names q x s)) e) whole.places
+      (λ q x e. put_all m.cells i (consumed_word to) (λ q c. c.cell ≡ a_cell.Woken x → ⊥) q (λ s. absurd (cc)) (λ ne s. whole.woken.none q x s) e) whole.places
       (record {
         armed = λ d h. stays_armed m.cells u.order i from to is d.message (mine.armed d h);
         ways = λ y h. way_stays n m.cells (put m.cells i (consumed_word to)) u.order (bypassed_order u.order i to) y (λ j k b. (b, refl)) (λ j k b. inl b) (stays_consumed m.cells u.order i from to is) (mine.ways y h);
         told = mine.told;
+        counted = mine.counted;
         ended = λ e. absurd (let z : true ≡ false = sym e ∙ here in cc);
       })
       (wholes.none_drawn entries arguments keeps_to p n small m u whole id v at here w refl)

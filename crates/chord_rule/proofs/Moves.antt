@@ -1,5 +1,6 @@
 -- What each step asks of the table.
-use Rattle.std.proofs.Common.{◌≡◌, ◌⊎◌, ⊎_elim, ℕ, ◌+◌, ◌/◌, ◌%◌, ◌^◌, ◌<◌, ◌≤◌, List, [], ◌∷◌, set, replicate, false, refl, sym, ap, ◌∙◌, subst, arith, get_or, zero, suc, map, Option, None, eqb, Bool, true, if◌then◌else◌}
+use Rattle.std.proofs.Common.{◌≡◌, ◌⊎◌, ⊎_elim, ℕ, ◌+◌, ◌/◌, ◌%◌, ◌^◌, ◌<◌, ◌≤◌, List, [], ◌∷◌, set, replicate, false, refl, sym, ap, ◌∙◌, subst, arith, get_or, zero, suc, map, Option, Some, None, eqb, Bool, true, if◌then◌else◌}
+use mathlib.Core.Path.{Path}
 use mathlib.Core.Option.{none, some, some-injective, some-ne-none}
 use native.Mathlib.Decide.{dec_le}
 use lib.ListN.{get_elem?, length-map, length-replicate}
@@ -178,8 +179,8 @@ module _ {P : Type 0} (entries : P → List Entry) (arguments : P → List value
         duties = λ ks xs c. nobody ks xs c.some c.chosen;
         looks = record { seen = λ j v e i next h. absurd (subst (λ (y : View). HasSeen y i next) (first_alone j v e) h).1 };
       };
-      desks = record { right = λ j v e. subst (IsRightDesk n 0 (λ i. empty_word) nothing_linked) (sym (first_alone j v e)) (record { armed = λ d h. absurd h; ways = λ w h. absurd h; told = λ here spent. absurd (let z : false ≡ true = spent in cc); ended = λ g. absurd (let z : false ≡ true = g in cc) }) };
-      woken = record { names = λ q i e. absurd (cc) };
+      desks = record { right = λ j v e. subst (IsRightDesk n 0 (λ i. empty_word) nothing_linked) (sym (first_alone j v e)) (record { armed = λ d h. absurd h; ways = λ w h. absurd h; told = λ here spent. absurd (let z : false ≡ true = spent in cc); counted = λ c e. absurd (let z : Path (Option ℕ) None (Some c) = e in cc); ended = λ g. absurd (let z : false ≡ true = g in cc) }) };
+      woken = record { none = λ q i e. absurd (cc) };
       places = record { within = λ i pl e. absurd (cc) };
       alone = record {
         lent = λ v e. ap (λ (y : View). y.lent) (first_alone 0 v e);

@@ -116,7 +116,7 @@ module _ {P : Type 0} (entries : P → List Entry) (arguments : P → List value
             (
               refl,
               (λ _. (
-                standing.desk_below entries arguments keeps_to p n m u whole.agrees.stands l id me.0 at,
+                standing.desk_below entries arguments keeps_to p n m u whole.agrees.stands id me.0 at,
                 (λ is ws chosen claimed. let same = agreeing.same_values entries arguments keeps_to p n small m u whole.agrees id me.0 at object js ms vs ws members (subst (λ (hs : List ℕ). AreClaimed me.0.claims object hs ms ws) (some_is is js (sym chosen ∙ chord)) claimed) in
                     subst (λ (xs : List value.Value). (w ≡ saw_count (kinds.firing_drawn me.0 m.count k object ms xs) (m.count + 1)) × CameNext p (entry m.count m.count (Fired k object ms xs)) × IsPlace p (entry m.count m.count (Fired k object ms xs) ∷ me.0.kept)) same (
                       refl,
@@ -201,6 +201,7 @@ module _ {P : Type 0} (entries : P → List Entry) (arguments : P → List value
                 ne (ap word_of (same_word_of (m.cells i) next is link))),
             refl,
             refl,
+            (whole.agrees.looks.seen id me.0 at i next saw_it).0,
           )),
           (λ is_first none_lent last. absurd (ne (ap word_of (knowing.remembered_cell entries arguments keeps_to p n small m u whole id me.0 at live is_first none_lent i (a_word a_cell.Pending next) last)))),
         ),

@@ -34,6 +34,7 @@ use Rattle.chord_rule.proofs.Naming as naming
 use Rattle.chord_rule.proofs.Puts.{at_inside}
 use Rattle.chord_rule.proofs.Spreading.{spread_one}
 use Rattle.chord_rule.proofs.WaySteps.{way_room, linked_numbers, were_linked}
+use Rattle.chord_rule.proofs.Standing as standing
 use Rattle.chord_rule.proofs.Wholes as wholes
 use Rattle.atomic_table.proofs.Lists.{set_here}
 
@@ -49,7 +50,14 @@ module _ {P : Type 0} (entries : P → List Entry) (arguments : P → List value
   -- a look at the counter
   pub look_count_step : (id : ℕ) (me : Me (Option P) View) → me.0.gone ≡ false → Allows H n id me 0 (λ x. x) (looks_count (step n 0 0 0 none) me)
   look_count_step id me live = counter_step Unseen W n width id me (λ x. x) (looks_count (step n 0 0 0 none) me)
-      (λ m u whole at fits. (saw_count me.0 m.count, keeps, u, tt, wholes.whole_look_count entries arguments keeps_to p n small m u whole id me.0 at live, refl))
+      (λ m u whole at fits. (
+        saw_count me.0 m.count,
+        keeps,
+        u,
+        tt,
+        wholes.whole_look_count entries arguments keeps_to p n small m u whole id me.0 at live,
+        (refl, standing.desk_below entries arguments keeps_to p n m u whole.agrees.stands id me.0 at, (whole.desks.right id me.0 at).counted),
+      ))
 
   -- the ways of a desk have room
   room_of : (m : Moment P) (u : Unseen) (id : ℕ) (v w : View) → get_elem? m.views id ≡ some v → W (record m { views = set m.views id w }) u → ((x : Way) → HasWay x w.looked.ways → WayLaw n m.cells u.order x)

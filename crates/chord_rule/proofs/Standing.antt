@@ -122,8 +122,8 @@ module _ {P : Type 0} (entries : P → List Entry) (arguments : P → List value
       (kept_below m.count (λ x. eqb (law.keeping.merged.at x) (parcel i)) u.journal (past_below p u.journal m.count past (omega arith)))
 
   -- what a desk keeps was drawn
-  pub desk_below : m.count < n → (id : ℕ) (v : View) → get_elem? m.views id ≡ some v → AllBelow m.count v.kept
-  desk_below room id v at = let long : length u.journal ≡ m.count = (let l = law.keeping.long in omega arith) in
+  pub desk_below : (id : ℕ) (v : View) → get_elem? m.views id ≡ some v → AllBelow m.count v.kept
+  desk_below id v at = let long : length u.journal ≤ m.count = (let l = law.keeping.long in omega arith) in
       subst (AllBelow m.count) (law.keeping.merged.keeps (desk id) ∙ desk_keeps entries m.views m.homes id ∙ ap at_desk at)
       (kept_below m.count (λ x. eqb (law.keeping.merged.at x) (desk id)) u.journal (past_below p u.journal m.count past (omega arith)))
 

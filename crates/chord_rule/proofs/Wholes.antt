@@ -32,7 +32,7 @@ use Rattle.chord_rule.specs.Bags.{LinkOrder, IsArmed, IsConsumed, BagLaw, head_n
 use Rattle.chord_rule.specs.Claims.{HasThe, AreClaimed}
 use Rattle.chord_rule.specs.Desks.{IsRightDesk}
 use Rattle.chord_rule.specs.Draws.{DrawLaw}
-use Rattle.chord_rule.specs.Duties.{HasDuty, MayRest, start_walk, move_duty, drop_duty}
+use Rattle.chord_rule.specs.Duties.{HasDuty, MayRest, start_walk, move_duty}
 use Rattle.chord_rule.specs.Hands.{hand, IsUnlinked}
 use Rattle.chord_rule.specs.Messages.{IsOpen}
 use Rattle.chord_rule.specs.Kinds as kinds
@@ -71,6 +71,7 @@ right_stays n count count' cells cells' o o' v more armed consumed linked newer 
   armed = λ d h. armed d.message (law.armed d h);
   ways = λ w h. way_stays n cells cells' o o' w linked newer consumed (law.ways w h);
   told = λ here spent. let l = law.told here spent in omega (arith, l, more);
+  counted = λ c e. let l = law.counted c e in omega (arith, l, more);
   ended = law.ended;
 }
 
@@ -82,7 +83,7 @@ link_newer o bags i k j l b = dite (ℕ_discrete j i)
 
 -- a desk that keeps nothing is as it should be
 right_newcomer : (n count : ℕ) (cells : ℕ → Word) (o : LinkOrder) → IsRightDesk n count cells o newcomer
-right_newcomer n count cells o = record { armed = λ d h. absurd h; ways = λ w h. absurd h; told = λ here spent. absurd (let z : false ≡ true = spent in cc); ended = λ e. absurd (let z : false ≡ true = e in cc) }
+right_newcomer n count cells o = record { armed = λ d h. absurd h; ways = λ w h. absurd h; told = λ here spent. absurd (let z : false ≡ true = spent in cc); counted = λ c e. absurd (let z : Path (Option ℕ) None (Some c) = e in cc); ended = λ e. absurd (let z : false ≡ true = e in cc) }
 
 -- where one of two desks was told, what both may be told holds
 told_either : (A : Type 0) (a b : Bool) → (a ≡ true → A) → (b ≡ true → A) → (a || b) ≡ true → A
@@ -91,7 +92,7 @@ told_either A false b first second e = second e
 
 -- and so is one that was joined
 right_gone : (n count : ℕ) (cells : ℕ → Word) (o : LinkOrder) → IsRightDesk n count cells o gone
-right_gone n count cells o = record { armed = λ d h. absurd h; ways = λ w h. absurd h; told = λ here spent. absurd (let z : true ≡ false = here in cc); ended = λ e. refl }
+right_gone n count cells o = record { armed = λ d h. absurd h; ways = λ w h. absurd h; told = λ here spent. absurd (let z : true ≡ false = here in cc); counted = λ c e. absurd (let z : Path (Option ℕ) None (Some c) = e in cc); ended = λ e. refl }
 
 module _ {P : Type 0} (entries : P → List Entry) (arguments : P → List value.Value) (keeps_to : P → Type 0) (p : Program) (n : ℕ) (small : n ≤ 65536) (m : Moment P) (u : Unseen) (whole : Whole entries arguments keeps_to p n m u)
     (id : ℕ) (v : View) (at : get_elem? m.views id ≡ some v) (here : v.gone ≡ false) where
@@ -126,7 +127,7 @@ module _ {P : Type 0} (entries : P → List Entry) (arguments : P → List value
   pub whole_step : (m' : Moment P) (u' : Unseen) (w : View) → m'.views ≡ set m.views id w → Agrees entries arguments keeps_to p n m' u' → w.first ≡ v.first → w.gone ≡ v.gone → w.lent ≡ v.lent → m.count ≤ m'.count
       → ((i : ℕ) → IsArmed (cell_of m.cells i) → IsArmed (cell_of m'.cells i)) → ((i : ℕ) → IsConsumed (cell_of m.cells i) → IsConsumed (cell_of m'.cells i)) → ((i k : ℕ) → u.order.bag i ≡ Some k → (u'.order.bag i ≡ Some k) × (u'.order.rank i ≡ u.order.rank i))
       → ((i k : ℕ) → u'.order.bag i ≡ Some k → (u.order.bag i ≡ Some k) ⊎ ((x l : ℕ) → u.order.bag x ≡ Some l → u.order.rank x < u'.order.rank i))
-      → ((q i : ℕ) → cell_of m'.cells q ≡ a_cell.Woken i → IsArmed (cell_of m'.cells i)) → PlaceLaw n m'.places → IsRightDesk n m'.count m'.cells u'.order w → DrawLaw (set m.views id w) u'.journal
+      → ((q i : ℕ) → cell_of m'.cells q ≡ a_cell.Woken i → ⊥) → PlaceLaw n m'.places → IsRightDesk n m'.count m'.cells u'.order w → DrawLaw (set m.views id w) u'.journal
       → (Remembers m.count m.heads m.cells v.looked → Remembers m'.count m'.heads m'.cells w.looked) → Whole entries arguments keeps_to p n m' u'
   whole_step m' u' w views after first gone_same lent more armed consumed linked newer woken places right drawn remembers = record {
     agrees = after;
@@ -134,7 +135,7 @@ module _ {P : Type 0} (entries : P → List Entry) (arguments : P → List value
       right = subst (λ (vs : List View). (j : ℕ) (x : View) → get_elem? vs j ≡ some x → IsRightDesk n m'.count m'.cells u'.order x) (sym views)
           (desks_after (λ j x. IsRightDesk n m'.count m'.cells u'.order x) m.views id w right (λ j x ne e. right_stays n m.count m'.count m.cells m'.cells u.order u'.order x more armed consumed linked newer (whole.desks.right j x e)));
     };
-    woken = record { names = woken };
+    woken = record { none = woken };
     places = places;
     alone = subst (λ (vs : List View). AloneLaw m'.count m'.heads m'.cells vs) (sym views)
         (alone_step m.count m.heads m.cells m.views whole.alone law.firsts.leads id v at here m'.count m'.heads m'.cells w first gone_same lent remembers);
@@ -149,18 +150,19 @@ module _ {P : Type 0} (entries : P → List Entry) (arguments : P → List value
   pub whole_still : (places : ℕ → Option Place) (homes : ℕ → Home P) (stage : ℕ → Stage) (w : View) → w.looked ≡ v.looked → ((d : Duty) → HasDuty d w.duties → HasDuty d v.duties) → w.first ≡ v.first → w.gone ≡ v.gone → w.lent ≡ v.lent → w.spent ≡ v.spent → w.draws ≡ v.draws → PlaceLaw n places
       → After (record m { places = places; homes = homes }) (record u { stage = stage }) w → Whole entries arguments keeps_to p n (record m { places = places; homes = homes; views = set m.views id w }) (record u { stage = stage })
   whole_still places homes stage w looked duties first gone_same lent spent same_draws placed after = whole_step (record m { places = places; homes = homes; views = set m.views id w }) (record u { stage = stage }) w refl after first gone_same lent (omega arith)
-      (λ i a. a) (λ i c. c) (λ i k b. (b, refl)) (λ i k b. inl b) whole.woken.names placed
+      (λ i a. a) (λ i c. c) (λ i k b. (b, refl)) (λ i k b. inl b) whole.woken.none placed
       (record {
         armed = λ d h. mine.armed d (duties d h);
         ways = λ x h. mine.ways x (subst (λ (l : Looked). HasWay x l.ways) looked h);
         told = λ e s. mine.told (sym gone_same ∙ e) (sym spent ∙ s);
+        counted = λ c e. mine.counted c (ap (λ (l : Looked). l.count) (sym looked) ∙ e);
         ended = not_gone w gone_same;
       })
       (none_drawn w same_draws)
       (λ r. subst (Remembers m.count m.heads m.cells) (sym looked) r)
 
   -- a step that writes the cell i, and remembers it
-  pub whole_cell : (i : ℕ) (x : Word) (homes : ℕ → Home P) (stage : ℕ → Stage) (w : View) → w.looked ≡ v.looked → (IsArmed (cell_of m.cells i) → IsArmed x.cell) → (IsConsumed (cell_of m.cells i) → IsConsumed x.cell) → ((z : ℕ) → x.cell ≡ a_cell.Woken z → IsArmed (cell_of m.cells z))
+  pub whole_cell : (i : ℕ) (x : Word) (homes : ℕ → Home P) (stage : ℕ → Stage) (w : View) → w.looked ≡ v.looked → (IsArmed (cell_of m.cells i) → IsArmed x.cell) → (IsConsumed (cell_of m.cells i) → IsConsumed x.cell) → ((z : ℕ) → x.cell ≡ a_cell.Woken z → ⊥)
       → ((d : Duty) → HasDuty d w.duties → HasDuty d v.duties ⊎ IsArmed (cell_of (put m.cells i x) d.message)) → w.first ≡ v.first → w.gone ≡ v.gone → w.lent ≡ v.lent → w.spent ≡ v.spent → w.draws ≡ v.draws
       → After (record m { cells = put m.cells i x; homes = homes }) (record u { stage = stage }) w
       → Whole entries arguments keeps_to p n (record m { cells = put m.cells i x; homes = homes; views = set m.views id (saw w i x) }) (record u { stage = stage })
@@ -168,11 +170,12 @@ module _ {P : Type 0} (entries : P → List Entry) (arguments : P → List value
       let m' : Moment P = record m { cells = put m.cells i x; homes = homes } in let u' : Unseen = record u { stage = stage } in
       whole_step (record m' { views = set m.views id (saw w i x) }) u' (saw w i x) refl (saw_too m' u' w i x (put_here m.cells i x) after) first gone_same lent (omega arith)
       stay stay_consumed (λ k l b. (b, refl)) (λ k l b. inl b)
-      (λ q z e. put_all m.cells i x (λ q c. c.cell ≡ a_cell.Woken z → IsArmed (cell_of (put m.cells i x) z)) q (λ s. stay z (woken z s)) (λ ne s. stay z (whole.woken.names q z s)) e) whole.places
+      (λ q z e. put_all m.cells i x (λ q c. c.cell ≡ a_cell.Woken z → ⊥) q (λ s. woken z s) (λ ne s. whole.woken.none q z s) e) whole.places
       (record {
         armed = λ d h. ⊎_elim (λ k. stay d.message (mine.armed d k)) (λ a. a) (duties d h);
         ways = λ y h. way_stays n m.cells (put m.cells i x) u.order u.order y (λ k l b. (b, refl)) (λ k l b. inl b) stay_consumed (mine.ways y (subst (λ (l : Looked). HasWay y l.ways) looked h));
         told = λ e s. mine.told (sym gone_same ∙ e) (sym spent ∙ s);
+        counted = λ c e. mine.counted c (ap (λ (l : Looked). l.count) (sym looked) ∙ e);
         ended = not_gone (saw w i x) gone_same;
       })
       (none_drawn (saw w i x) same_draws)
@@ -191,11 +194,12 @@ module _ {P : Type 0} (entries : P → List Entry) (arguments : P → List value
   whole_count journal stage w looked duties first gone_same lent spent drawn after =
       let m' : Moment P = record m { count = m.count + 1 } in let u' : Unseen = record u { journal = journal; stage = stage } in
       whole_step (record m' { views = set m.views id (saw_count w (m.count + 1)) }) u' (saw_count w (m.count + 1)) refl (looked_too m' u' w (record w.looked { count = Some (m.count + 1) }) refl after) first gone_same lent (omega arith)
-      (λ i a. a) (λ i c. c) (λ i k b. (b, refl)) (λ i k b. inl b) whole.woken.names whole.places
+      (λ i a. a) (λ i c. c) (λ i k b. (b, refl)) (λ i k b. inl b) whole.woken.none whole.places
       (record {
         armed = λ d h. mine.armed d (subst (HasDuty d) duties h);
         ways = λ x h. mine.ways x (subst (λ (l : Looked). HasWay x l.ways) looked h);
         told = λ e s. spent s;
+        counted = λ c e. let z : m.count + 1 ≡ c = (let y : Path (Option ℕ) (Some (m.count + 1)) (Some c) = e in cc) in omega (arith, z);
         ended = not_gone (saw_count w (m.count + 1)) gone_same;
       })
       drawn
@@ -258,11 +262,12 @@ module _ {P : Type 0} (entries : P → List Entry) (arguments : P → List value
       let newer : (j l : ℕ) → put u.order.bag i (Some k) j ≡ Some l → (u.order.bag j ≡ Some l) ⊎ ((x z : ℕ) → u.order.bag x ≡ Some z → u.order.rank x < put u.order.rank i u.order.clock j) = (λ j l b. link_newer u.order law.bags i k j l b) in
       whole_step (record m' { views = set m.views id (saw_head w (head_number k) (Some i)) }) u' (saw_head w (head_number k) (Some i)) refl
       (looked_too m' u' w (saw_head w (head_number k) (Some i)).looked refl (agreeing.agrees_link entries arguments keeps_to p n small m u law id v at law.tabled i q e x is num says method placing free may others args call parked task))
-      refl refl refl (omega arith) (λ j a. a) (λ j c. c) linked newer whole.woken.names whole.places
+      refl refl refl (omega arith) (λ j a. a) (λ j c. c) linked newer whole.woken.none whole.places
       (record {
         armed = mine.armed;
         ways = λ y h. way_stays n m.cells m.cells u.order (linked_order u.order i k above) y linked newer (λ j c. c) (mine.ways y h);
         told = mine.told;
+        counted = mine.counted;
         ended = not_gone (saw_head w (head_number k) (Some i)) refl;
       })
       (none_drawn (saw_head w (head_number k) (Some i)) refl)
@@ -338,7 +343,7 @@ module _ {P : Type 0} (entries : P → List Entry) (arguments : P → List value
     agrees = agreeing.agrees_split entries arguments keeps_to p n small m u law id v at is_first few;
     desks = record {
       right = λ j y e. ⊎_elim
-          (λ a. desks_after (λ j x. IsRightDesk n m.count m.cells u.order x) m.views id (kinds.lent_one v) (record { armed = mine.armed; ways = mine.ways; told = mine.told; ended = not_gone (kinds.lent_one v) refl }) (λ j x ne b. whole.desks.right j x b) j y a)
+          (λ a. desks_after (λ j x. IsRightDesk n m.count m.cells u.order x) m.views id (kinds.lent_one v) (record { armed = mine.armed; ways = mine.ways; told = mine.told; counted = mine.counted; ended = not_gone (kinds.lent_one v) refl }) (λ j x ne b. whole.desks.right j x b) j y a)
           (λ t. subst (IsRightDesk n m.count m.cells u.order) t.1 (right_newcomer n m.count m.cells u.order)) (at_end (set m.views id (kinds.lent_one v)) newcomer y j e);
     };
     woken = whole.woken;
@@ -360,6 +365,7 @@ module _ {P : Type 0} (entries : P → List Entry) (arguments : P → List value
                 subst (λ (z : Duty). IsArmed (cell_of m.cells z.message)) (sym r.2) (⊎_elim (λ k. mine.armed r.0 k) (λ k. (whole.desks.right other w there).armed r.0 k) (agreeing.has_either r.0 v.duties w.duties r.1));
             ways = λ y h. absurd h;
             told = λ still spent. told_either (n ≤ m.count) v.spent w.spent (mine.told here) ((whole.desks.right other w there).told there_here) spent;
+            counted = λ c e. absurd (let z : Path (Option ℕ) None (Some c) = e in cc);
             ended = not_gone (kinds.united v w) refl;
           })
           (λ j x ne b. whole.desks.right j x b) j x e);
@@ -375,10 +381,10 @@ module _ {P : Type 0} (entries : P → List Entry) (arguments : P → List value
 
   -- what the desk does in its looks and its duties alone keeps the whole rule where it keeps its parts
   whole_view : (w : View) → After m u w → w.first ≡ v.first → w.gone ≡ v.gone → w.lent ≡ v.lent → w.spent ≡ v.spent → w.draws ≡ v.draws → ((d : Duty) → HasDuty d w.duties → IsArmed (cell_of m.cells d.message)) → ((x : Way) → HasWay x w.looked.ways → WayLaw n m.cells u.order x)
-      → (Remembers m.count m.heads m.cells v.looked → Remembers m.count m.heads m.cells w.looked) → Whole entries arguments keeps_to p n (record m { views = set m.views id w }) u
-  whole_view w after first gone_same lent spent same_draws armed ways remembers = whole_step (record m { views = set m.views id w }) u w refl after first gone_same lent (omega arith)
-      (λ i a. a) (λ i c. c) (λ i k b. (b, refl)) (λ i k b. inl b) whole.woken.names whole.places
-      (record { armed = armed; ways = ways; told = λ e s. mine.told (sym gone_same ∙ e) (sym spent ∙ s); ended = not_gone w gone_same }) (none_drawn w same_draws) remembers
+      → ((c : ℕ) → w.looked.count ≡ Some c → c ≤ m.count) → (Remembers m.count m.heads m.cells v.looked → Remembers m.count m.heads m.cells w.looked) → Whole entries arguments keeps_to p n (record m { views = set m.views id w }) u
+  whole_view w after first gone_same lent spent same_draws armed ways counted remembers = whole_step (record m { views = set m.views id w }) u w refl after first gone_same lent (omega arith)
+      (λ i a. a) (λ i c. c) (λ i k b. (b, refl)) (λ i k b. inl b) whole.woken.none whole.places
+      (record { armed = armed; ways = ways; told = λ e s. mine.told (sym gone_same ∙ e) (sym spent ∙ s); counted = counted; ended = not_gone w gone_same }) (none_drawn w same_draws) remembers
 
   -- what is linked is a number of the table
   pub linked_below : (i k : ℕ) → u.order.bag i ≡ Some k → i < n
@@ -387,6 +393,7 @@ module _ {P : Type 0} (entries : P → List Entry) (arguments : P → List value
   -- a look at the counter
   pub whole_look_count : Whole entries arguments keeps_to p n (record m { views = set m.views id (saw_count v m.count) }) u
   whole_look_count = whole_view (saw_count v m.count) (agreeing.agrees_still entries arguments keeps_to p n small m u law id v at (saw_count v m.count) refl refl refl refl refl refl refl refl) refl refl refl refl refl mine.armed mine.ways
+      (λ c e. let z : m.count ≡ c = (let y : Path (Option ℕ) (Some m.count) (Some c) = e in cc) in omega (arith, z))
       (λ r. remembers_count m.count m.heads m.cells v.looked r m.count)
 
   -- a look at the head of the bag k
@@ -394,6 +401,7 @@ module _ {P : Type 0} (entries : P → List Entry) (arguments : P → List value
   whole_look_head k linked are = whole_view (kinds.looked_head v k linked (m.heads (head_number k))) (looking.agrees_look_head entries arguments keeps_to p n small m u law id v at k linked) refl refl refl refl refl
       (λ d h. let r = looking.has_mapped (start_walk k (m.heads (head_number k))) d v.duties h in subst (λ (z : Duty). IsArmed (cell_of m.cells z.message)) (sym r.2) (mine.armed r.0 r.1))
       begun_ways
+      mine.counted
       (λ r. let z = remembers_look_head m.count m.heads m.cells v.looked r (head_number k) in record { counter = z.counter; head = z.head; cell = z.cell })
     where
       begun_ways : (x : Way) → HasWay x (way_begun k linked (m.heads (head_number k)) ∷ v.looked.ways) → WayLaw n m.cells u.order x
@@ -438,7 +446,7 @@ module _ {P : Type 0} (entries : P → List Entry) (arguments : P → List value
   -- a look at the cell i
   pub whole_look_cell : (i : ℕ) → Whole entries arguments keeps_to p n (record m { views = set m.views id (kinds.looked_cell v i (m.cells i)) }) u
   whole_look_cell i = whole_view (kinds.looked_cell v i (m.cells i)) (looking.agrees_look_cell entries arguments keeps_to p n small m u law id v at i) refl refl refl refl refl
-      (λ d h. armed (kinds.is_down (m.cells i).cell) d h) (on_law (IsKey u.journal) n m.cells m.heads u.order law.bags linked_below v.looked.ways i (λ k b. linked_cell i k b) mine.ways)
+      (λ d h. armed (kinds.is_down (m.cells i).cell) d h) (on_law (IsKey u.journal) n m.cells m.heads u.order law.bags linked_below v.looked.ways i (λ k b. linked_cell i k b) mine.ways) mine.counted
       (λ r. let z = remembers_look m.count m.heads m.cells v.looked r i in record { counter = z.counter; head = z.head; cell = z.cell })
     where
       armed : (b : Bool) (d : Duty) → HasDuty d (if b then map (move_duty i (m.cells i).next) v.duties else v.duties) → IsArmed (cell_of m.cells d.message)
@@ -447,33 +455,13 @@ module _ {P : Type 0} (entries : P → List Entry) (arguments : P → List value
 
   -- what an exchange that fails reads in the cell i
   pub whole_saw : (i : ℕ) → Whole entries arguments keeps_to p n (record m { views = set m.views id (saw v i (m.cells i)) }) u
-  whole_saw i = whole_view (saw v i (m.cells i)) (looking.agrees_saw entries arguments keeps_to p n small m u law id v at i) refl refl refl refl refl mine.armed mine.ways (λ r. remembers_look m.count m.heads m.cells v.looked r i)
+  whole_saw i = whole_view (saw v i (m.cells i)) (looking.agrees_saw entries arguments keeps_to p n small m u law id v at i) refl refl refl refl refl mine.armed mine.ways mine.counted (λ r. remembers_look m.count m.heads m.cells v.looked r i)
 
   -- what an exchange that fails reads in a head
   pub whole_saw_head : (head : ℕ) → Whole entries arguments keeps_to p n (record m { views = set m.views id (saw_head v head (m.heads head)) }) u
-  whole_saw_head head = whole_view (saw_head v head (m.heads head)) (agreeing.agrees_still entries arguments keeps_to p n small m u law id v at (saw_head v head (m.heads head)) refl refl refl refl refl refl refl refl) refl refl refl refl refl mine.armed mine.ways
+  whole_saw_head head = whole_view (saw_head v head (m.heads head)) (agreeing.agrees_still entries arguments keeps_to p n small m u law id v at (saw_head v head (m.heads head)) refl refl refl refl refl refl refl refl) refl refl refl refl refl mine.armed mine.ways mine.counted
       (λ r. remembers_look_head m.count m.heads m.cells v.looked r head)
 
   -- a duty is laid down
   pub whole_rest : (i : ℕ) → ((d : Duty) → HasDuty d v.duties → d.message ≡ i → MayRest (IsChord p) d) → Whole entries arguments keeps_to p n (record m { views = set m.views id (kinds.rested v i) }) u
-  whole_rest i may = whole_view (kinds.rested v i) (looking.agrees_rest entries arguments keeps_to p n small m u law id v at i may) refl refl refl refl refl (λ d h. mine.armed d (agreeing.was_duty d i v.duties h)) mine.ways (λ r. r)
-
-  -- the caller q is woken by the message i, on which the desk has a duty
-  pub whole_woken : (q : ℕ) (e : Duty) (next : Option ℕ) → HasDuty e v.duties → m.cells q ≡ record { cell = a_cell.Pending; next = next } → u.stage q ≡ Armed
-      → Whole entries arguments keeps_to p n (record m { cells = put m.cells q (record { cell = a_cell.Woken e.message; next = next }); views = set m.views id (saw (kinds.woke v q e.message) q (record { cell = a_cell.Woken e.message; next = next })) }) u
-  whole_woken q e next has is was = whole_cell q (record { cell = a_cell.Woken e.message; next = next }) m.homes u.stage (kinds.woke v q e.message) refl (λ _. tt) (λ c. absurd (subst (λ (w : Word). IsConsumed w.cell) is c))
-      (λ z s. subst (λ (y : ℕ). IsArmed (cell_of m.cells y)) (woken_by e.message z s) (mine.armed e has))
-      (λ d h. inl (agreeing.was_duty d e.message v.duties (agreeing.was_duty d q (drop_duty e.message v.duties) h))) refl refl refl refl refl
-      (looking.agrees_woken entries arguments keeps_to p n small m u law id v at q e.message next is was)
-    where
-      woken_by : (a b : ℕ) → a_cell.Woken a ≡ a_cell.Woken b → a ≡ b
-      woken_by a b s = cc
-
-  -- the caller q is pending again, with duties on it and on the message that woke it
-  pub whole_rearmed : (q kq i ki : ℕ) (next : Option ℕ) → m.cells q ≡ record { cell = a_cell.Woken i; next = next } → u.stage q ≡ Armed → u.order.bag q ≡ Some kq → u.order.bag i ≡ Some ki
-      → Whole entries arguments keeps_to p n (record m { cells = put m.cells q (record { cell = a_cell.Pending; next = next }); views = set m.views id (saw (kinds.rearmed v q kq i ki) q (record { cell = a_cell.Pending; next = next })) }) u
-  whole_rearmed q kq i ki next is was bq bi = let x : Word = record { cell = a_cell.Pending; next = next } in whole_cell q x m.homes u.stage (kinds.rearmed v q kq i ki) refl (λ _. tt) (λ c. absurd (subst (λ (w : Word). IsConsumed w.cell) is c)) (λ z e. absurd (cc))
-      (λ d h. ⊎_elim (λ e. inr (subst (λ (j : ℕ). IsArmed (cell_of (put m.cells q x) j)) (sym (ap (λ (z : Duty). z.message) e)) (subst (λ (c : Word). IsArmed c.cell) (sym (put_here m.cells q x)) tt)))
-      (λ k. ⊎_elim (λ e. inr (subst (λ (j : ℕ). IsArmed (cell_of (put m.cells q x) j)) (sym (ap (λ (z : Duty). z.message) e))
-      (put_all m.cells q x (λ j c. IsArmed (cell_of m.cells j) → IsArmed c.cell) i (λ _. tt) (λ ne a. a) (whole.woken.names q i (ap (λ (c : Word). c.cell) is))))) inl k) h) refl refl refl refl refl
-      (looking.agrees_rearmed entries arguments keeps_to p n small m u law id v at q kq i ki next is was bq bi)
+  whole_rest i may = whole_view (kinds.rested v i) (looking.agrees_rest entries arguments keeps_to p n small m u law id v at i may) refl refl refl refl refl (λ d h. mine.armed d (agreeing.was_duty d i v.duties h)) mine.ways mine.counted (λ r. r)

@@ -1,5 +1,5 @@
 -- What holds of each desk, by its view: its duties, its ways through bags, the limit that it was told of, and its end.
-use Rattle.std.specs.Prelude.{◌≡◌, ◌≤◌, ℕ, true, false, List}
+use Rattle.std.specs.Prelude.{◌≡◌, ◌≤◌, ℕ, true, false, List, Some}
 use mathlib.Core.Option.{some}
 use lib.ListN.{get_elem?}
 use Rattle.chord_word.specs.declared.cells.Word.{Word}
@@ -19,6 +19,8 @@ pub record IsRightDesk (n count : ℕ) (cells : ℕ → Word) (o : LinkOrder) (v
   pub ways : (w : Way) → HasWay w v.looked.ways → WayLaw n cells o w
   -- where it was told that the limit is reached, it is
   pub told : v.gone ≡ false → v.spent ≡ true → n ≤ count
+  -- the counter is no less than what it last read or wrote of it
+  pub counted : (c : ℕ) → v.looked.count ≡ Some c → c ≤ count
   -- a desk that was joined into the first has nothing
   pub ended : v.gone ≡ true → v ≡ gone
 

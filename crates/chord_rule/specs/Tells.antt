@@ -95,11 +95,11 @@ module _ {S : Type 0} where
 
   -- ## Claims
 
-  -- where the word was that of the pending message i with this next, it is claimed; else it was not pending
+  -- where the word was that of the pending message i with this next, it is claimed; else it was armed and not pending
   abbrev pub ClaimTells : ℕ → Option ℕ → Step (Option S) → Me (Option S) View → ℕ → Me (Option S) View → Type 0
   ClaimTells i next s m x w = (w.1 ≡ m.1)
       × (x ≡ s.first → (c : Claim) × IsNewClaim m.0 i next c × (w.0 ≡ saw (claimed m.0 c) i (a_word a_cell.Claimed next)))
-      × (x ≢ s.first → (c : Word) × WordFits c × (c.cell ≢ a_cell.Pending) × (x ≡ word_of c) × (w.0 ≡ saw m.0 i c))
+      × (x ≢ s.first → (c : Word) × WordFits c × (c.cell ≢ a_cell.Pending) × (x ≡ word_of c) × (w.0 ≡ saw m.0 i c) × IsArmed c.cell)
       × (m.0.first ≡ true → m.0.lent ≡ 0 → LastSeen i (a_word a_cell.Pending next) m.0.looked.seen → x ≡ s.first)
 
   -- a message is claimed, or its cell was read
@@ -150,9 +150,9 @@ module _ {S : Type 0} where
   abbrev pub finds_place : Program → Step S → Me S View → ℕ → Me S View → Type 0
   finds_place p s m x w = (w ≡ m) × IsPlace p m.0.kept
 
-  -- the counter
+  -- the counter: it is above all that the desk kept, and no less than what the desk last read or wrote of it
   abbrev pub looks_count : Step (Option S) → Me (Option S) View → ℕ → Me (Option S) View → Type 0
-  looks_count s m x w = w ≡ (saw_count m.0 x, m.1)
+  looks_count s m x w = (w ≡ (saw_count m.0 x, m.1)) × AllBelow x m.0.kept × ((c : ℕ) → m.0.looked.count ≡ Some c → c ≤ x)
 
   -- the head of a bag: the newest way begins there, and knows which messages had been linked in the bag at that moment
   abbrev pub looks_head : (S → List Entry) → (S → List value.Value) → (S → Type 0) → Program → Object → ℕ → Step (Option S) → Me (Option S) View → ℕ → Me (Option S) View → Type 0

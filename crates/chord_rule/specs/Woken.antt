@@ -1,9 +1,9 @@
--- Woken cells.
+-- Woken cells, of which there are none.
 use Rattle.std.specs.Prelude.{◌≡◌, ℕ}
 use Rattle.chord_word.specs.declared.cells.Cell.TheVariants.{Woken}
 use Rattle.chord_word.specs.declared.cells.Word.{Word}
-use Rattle.chord_rule.specs.Bags.{IsArmed, cell_of}
+use Rattle.chord_rule.specs.Bags.{cell_of}
 
--- a woken cell names an armed message, to which its caller is to look
+-- no cell is woken, since no call wakes a caller in place of a firing
 pub record WokenLaw (cells : ℕ → Word) : Type 0 where
-  pub names : (q i : ℕ) → cell_of cells q ≡ Woken i → IsArmed (cell_of cells i)
+  pub none : (q i : ℕ) → cell_of cells q ≡ Woken i → ⊥

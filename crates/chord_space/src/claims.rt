@@ -2,6 +2,7 @@
 ghost use Rattle.std.specs.Prelude.{◌≡◌, ◌≢◌, ℕ, ◌<◌, true, Option, Some, None, OnOk, IfErr, IfSome, IsOk};
 ghost use Rattle.chord_base.specs.Story.{AllBelow};
 ghost use Rattle.chord_rule.specs.declared.view.Claim.{Claim};
+ghost use Rattle.chord_rule.specs.Bags.{IsArmed};
 ghost use Rattle.chord_rule.specs.Claims.{HasThe, HasClaimOn};
 ghost use Rattle.chord_rule.specs.Coming.{ComesWithMessage};
 ghost use Rattle.chord_rule.specs.Kinds.{claimed, unclaimed, consumed, emptied, saw};
@@ -44,8 +45,8 @@ fn consumed_of(claimed: u64) -> u64
 }
 
 impl<P: Carry> Space<P> {
-    /// Claims message i, whose cell the desk saw armed with this next; or gives the cell that the one exchange read, which is not
-    /// Pending. On a first desk that has lent none it is Ok where the desk last read or wrote that cell Pending with this next.
+    /// Claims message i, whose cell the desk saw armed with this next; or gives the cell that the one exchange read, which is armed
+    /// and not Pending. On a first desk that has lent none it is Ok where the desk last read or wrote that cell Pending with this next.
     ///
     /// Pairs with `arm` and `give_back` of this message: who claims it finds its parcel in its slot. One exchange decides who has it.
     pub fn claim(&self, desk: &mut Desk<P>, i: u32, next: Option<u32>) -> Result<(), Cell>
@@ -54,7 +55,7 @@ impl<P: Carry> Space<P> {
         requires seen { HasSeen (view desk.old) i next }
         ensures desk { IsSameDesk desk.old desk.new }
         ensures claimed { OnOk result ((c : Claim) × IsNewClaim (view desk.old) i next c × (view desk.new ≡ saw (claimed (view desk.old) c) i (a_word Claimed next))) }
-        ensures refused { IfErr result (λ c. (c ≢ Pending) × ((after : Option ℕ) × (view desk.new ≡ saw (view desk.old) i (a_word c after)))) }
+        ensures refused { IfErr result (λ c. (c ≢ Pending) × ((after : Option ℕ) × (view desk.new ≡ saw (view desk.old) i (a_word c after))) × IsArmed c) }
         ensures alone { (view desk.old).first ≡ true → (view desk.old).lent ≡ 0 → LastSeen i (a_word Pending next) (view desk.old).looked.seen → IsOk result }
     {
         let words = &self.table.shared;

@@ -1,5 +1,6 @@
 //! Looks at the counter, at heads, at cells and at places, and duties that are laid down.
-ghost use Rattle.std.specs.Prelude.{◌≡◌, ℕ, ◌<◌, Option, Some, IfSome, min};
+ghost use Rattle.std.specs.Prelude.{◌≡◌, ℕ, ◌<◌, ◌≤◌, Option, Some, IfSome, min};
+ghost use Rattle.chord_base.specs.Story.{AllBelow};
 ghost use Rattle.chord_rule.specs.declared.view.Claim.{Claim};
 ghost use Rattle.chord_rule.specs.declared.view.Duty.{Duty};
 ghost use Rattle.chord_rule.specs.Claims.{HasThe};
@@ -31,11 +32,12 @@ pub(crate) fn at_most(count: u64, limit: u32) -> u32
 }
 
 impl<P: Carry> Space<P> {
-    /// How many numbers were given: the lesser of the limit and of the counter, which one load reads.
+    /// How many numbers were given: the lesser of the limit and of the counter, which one load reads. The counter is above each number
+    /// that the desk keeps, and no less than what the desk last read or wrote of it.
     pub fn look_count(&self, desk: &mut Desk<P>) -> u32
         requires desk { IsDeskOf self.now desk.old }
         ensures desk { IsSameDesk desk.old desk.new }
-        ensures looked { (c : ℕ) × (result ≡ min c self.now.events) × (view desk.new ≡ saw_count (view desk.old) c) }
+        ensures looked { (c : ℕ) × (result ≡ min c self.now.events) × (view desk.new ≡ saw_count (view desk.old) c) × AllBelow c (view desk.old).kept × ((b : ℕ) → (view desk.old).looked.count ≡ Some b → b ≤ c) }
     {
         let found = self.table.shared.load::<SeeCount>(&mut desk.seat, 0);
         at_most(found, self.events)

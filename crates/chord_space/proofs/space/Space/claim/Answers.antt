@@ -7,6 +7,7 @@ use Rattle.atomic_table.specs.Table.{Allows, step}
 use Rattle.chord_code.specs.Meaning.{code_program}
 use Rattle.chord_word.specs.declared.cells.Cell.TheVariants as a_cell
 use Rattle.chord_word.specs.declared.cells.Word.{Word}
+use Rattle.chord_rule.specs.Bags.{IsArmed}
 use Rattle.chord_rule.specs.Kinds.{saw}
 use Rattle.chord_rule.specs.Layout.{cell_at}
 use Rattle.chord_rule.specs.Tells.{word, a_word, claims}
@@ -46,7 +47,7 @@ unpack_cell-requires g c = let told = c.compare_exchange-found.ensures.2 c.args.
 pub returns-clause-refused : goal.returns-clause-refused
 returns-clause-refused g c = let told = c.compare_exchange-found.ensures.2 c.args.i c.args.next c.cell_word.ensures.word c.message_word-pending.ensures in let missed = told.2 c.if-found-pending.false in
     let same : missed.0 ≡ c.unpack_cell.result = sym (c.unpack_cell.ensures.back missed.0 missed.1 (sym missed.3)) in
-    subst (λ (w : Word). (w.cell ≢ a_cell.Pending) × ((next : Option ℕ) × (c.compare_exchange-found.new.seat.me.0 ≡ saw c.args.desk.now.seat.me.0 c.args.i (a_word w.cell next)))) same (missed.2, (missed.0.next, missed.4))
+    subst (λ (w : Word). (w.cell ≢ a_cell.Pending) × ((next : Option ℕ) × (c.compare_exchange-found.new.seat.me.0 ≡ saw c.args.desk.now.seat.me.0 c.args.i (a_word w.cell next))) × IsArmed w.cell) same (missed.2, (missed.0.next, missed.4), missed.5)
 
 pub returns-clause-alone : goal.returns-clause-alone
 returns-clause-alone g c = let told = c.compare_exchange-found.ensures.2 c.args.i c.args.next c.cell_word.ensures.word c.message_word-pending.ensures in λ is_first none_lent last. absurd (c.if-found-pending.false (told.3 is_first none_lent last))
