@@ -241,16 +241,16 @@ lacks_first bytes count (e ∷ es) rest begun (counted, behind, some, few, text,
 pub lacks_number : (bytes : List ℕ) (count : ℕ) (es : List Entry) (rest : List ℕ) (place : ℕ) → BeginsWithLines bytes count es rest → length es ≡ place → HasNoFirst bytes →
     (decimal_at 65536 rest >>= (λ number. if number.0 == place then after_text (codes " ") number.1 else None)) ≡ None
 lacks_number bytes count es rest place begun long missing =
-    let (zero, lacks) = lacks_first bytes count es rest begun missing in
-    first_not_read place rest (sym long ∙ zero) lacks
+    let (at_first, lacks) = lacks_first bytes count es rest begun missing in
+    first_not_read place rest (sym long ∙ at_first) lacks
 
 -- where it is missing, no line is read
 pub lacks_entry : (bytes : List ℕ) (count : ℕ) (es : List Entry) (rest : List ℕ) (place : ℕ) (e : Entry) (more : List ℕ) → BeginsWithLines bytes count es rest → length es ≡ place →
     entry_at place rest ≡ Some (e, more) → HasNoFirst bytes → ⊥
 lacks_entry bytes count es rest place e more begun long read missing =
-    let (zero, lacks) = lacks_first bytes count es rest begun missing in
+    let (at_first, lacks) = lacks_first bytes count es rest begun missing in
     let (text, right) = entry_takes place rest e more read in
-    let (behind, line) = first_begins e more (right.number ∙ sym long ∙ zero) in
+    let (behind, line) = first_begins e more (right.number ∙ sym long ∙ at_first) in
     lacks behind (text ∙ line)
 
 -- where it is missing, the first line behind the header is the least that is wrong

@@ -358,9 +358,9 @@ zero_begins more = ap (λ ds. ds ++ (32 ∷ more)) (decimal_digit 0 (omega arith
 
 -- the line of the entry with number 0 begins with its number and a blank
 pub first_begins : (e : Entry) (rest : List ℕ) → e.number ≡ 0 → (more : List ℕ) × (entry_text e ++ rest ≡ codes "0 " ++ more)
-first_begins e rest zero =
+first_begins e rest at_first =
     let more : List ℕ = decimal e.body ++ (32 ∷ (what_text e.what ++ (10 ∷ rest))) in
-    (more, line_parts e rest ∙ ap (λ n. decimal n ++ (32 ∷ more)) zero ∙ zero_begins more)
+    (more, line_parts e rest ∙ ap (λ n. decimal n ++ (32 ∷ more)) at_first ∙ zero_begins more)
 
 -- the line of an entry is read
 pub entry_again : (place : ℕ) (e : Entry) (rest : List ℕ) → IsEntryAt place e → place < 65536 → entry_at place (entry_text e ++ rest) ≡ Some (e, rest)
@@ -432,19 +432,19 @@ with_blank place number = if number.0 == place then after_text (codes " ") numbe
 -- where the number 0 and a blank do not stand at the front, nothing else was read as those of the first entry
 nothing_read : (place : ℕ) (bytes : List ℕ) (o : Option (List ℕ)) → place ≡ 0 → ((more : List ℕ) → bytes ≡ codes "0 " ++ more → ⊥) →
     (decimal_at 65536 bytes >>= with_blank place) ≡ o → o ≡ None
-nothing_read place bytes None zero lacks read = refl
-nothing_read place bytes (Some more) zero lacks read =
+nothing_read place bytes None at_first lacks read = refl
+nothing_read place bytes (Some more) at_first lacks read =
     let (number, first, tested) = bound (decimal_at 65536 bytes) (with_blank place) more read in
     let (here, second) = guarded (number.0 == place) (after_text (codes " ") number.1) more tested in
     let (text, low) = number_takes 65536 bytes number.0 number.1 (omega arith) first in
     let blank = after_takes (codes " ") number.1 more second in
     let at : number.0 ≡ place = grind (arith, nat_tests, here) in
-    absurd (lacks more (text ∙ ap (λ b. decimal number.0 ++ b) blank ∙ ap (λ n. decimal n ++ (32 ∷ more)) (at ∙ zero) ∙ zero_begins more))
+    absurd (lacks more (text ∙ ap (λ b. decimal number.0 ++ b) blank ∙ ap (λ n. decimal n ++ (32 ∷ more)) (at ∙ at_first) ∙ zero_begins more))
 
 -- where the number 0 and a blank do not stand at the front, they are not read as those of the first entry
 pub first_not_read : (place : ℕ) (bytes : List ℕ) → place ≡ 0 → ((more : List ℕ) → bytes ≡ codes "0 " ++ more → ⊥) →
     (decimal_at 65536 bytes >>= (λ number. if number.0 == place then after_text (codes " ") number.1 else None)) ≡ None
-first_not_read place bytes zero lacks = nothing_read place bytes (decimal_at 65536 bytes >>= with_blank place) zero lacks refl
+first_not_read place bytes at_first lacks = nothing_read place bytes (decimal_at 65536 bytes >>= with_blank place) at_first lacks refl
 
 -- a header is read
 pub header_again : (count : ℕ) (rest : List ℕ) → count ≤ 65536 → header_at (header_text count ++ rest) ≡ Some (count, rest)
