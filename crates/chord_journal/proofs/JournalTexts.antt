@@ -1,5 +1,6 @@
 -- Journals: what is read has their text, their text is read, and one line at most is the least that is wrong.
 use Rattle.std.proofs.Common.{◌≡◌, ℕ, zero, suc, ◌<◌, ◌≤◌, ◌+◌, List, [], ◌∷◌, ◌++◌, length, reverse, Some, None, refl, ap, sym, ◌∙◌, append_assoc, append-nil, arith, subst, inl, inr, length-append, add-one}
+use Rattle.std.specs.Prelude.{◌==◌, codes, if◌then◌else◌}
 use Rattle.std.specs.List.{flat_map}
 use Rattle.std.proofs.lemmas.Grind.{flat_map-append}
 use Rattle.std.proofs.lemmas.List.{reverse-append}
@@ -8,10 +9,10 @@ use Rattle.chord_base.specs.Bounds.{AreWithin, IsJournal}
 use Rattle.chord_base.specs.declared.event.Entry.{Entry}
 use Rattle.chord_journal.specs.Text.{entry_text, header_text, journal_text}
 use Rattle.chord_journal.specs.Typed.{AreTyped}
-use Rattle.chord_journal.specs.Wrong.{IsEntryAt, AreEntriesFrom, BeginsWithLines, HasNoHeader, HasEntries, HasNoEntry, IsWrongBehind, IsWrongAt}
-use Rattle.chord_journal.specs.Reading.{entry_at, header_at}
+use Rattle.chord_journal.specs.Wrong.{IsEntryAt, AreEntriesFrom, BeginsWithLines, HasNoHeader, HasEntries, HasNoFirst, HasNoEntry, IsWrongBehind, IsWrongAt}
+use Rattle.chord_journal.specs.Reading.{◌>>=◌, after_text, decimal_at, entry_at, header_at}
 use Rattle.chord_journal.proofs.Binds.{same_read}
-use Rattle.chord_journal.proofs.LineTexts.{entry_again, entry_takes, header_again, header_takes}
+use Rattle.chord_journal.proofs.LineTexts.{entry_again, entry_takes, first_begins, first_not_read, header_again, header_takes}
 
 -- where no header is read, none stands there
 pub no_header : (bytes : List ℕ) → header_at bytes ≡ None → HasNoHeader bytes
@@ -224,3 +225,36 @@ pub whole_text : (bytes : List ℕ) (count : ℕ) (es : List Entry) (rest : List
 whole_text bytes count es rest begun all none =
     begun.text ∙ ap (λ n. header_text n ++ (flat_map entry_text es ++ rest)) (sym all) ∙
     ap (λ b. header_text (length es) ++ b) (ap (λ r. flat_map entry_text es ++ r) none ∙ append-nil (flat_map entry_text es))
+
+-- where the number of the first entry is missing, no line was read, and what follows the header is left
+lacks_first : (bytes : List ℕ) (count : ℕ) (es : List Entry) (rest : List ℕ) → BeginsWithLines bytes count es rest → HasNoFirst bytes →
+    (length es ≡ 0) × ((more : List ℕ) → rest ≡ codes "0 " ++ more → ⊥)
+lacks_first bytes count [] rest begun (counted, behind, some, few, text, lacks) =
+    let (same, left) = same_header count counted rest behind begun.counted few (sym begun.text ∙ text) in
+    (refl, λ more is. lacks more (sym left ∙ is))
+lacks_first bytes count (e ∷ es) rest begun (counted, behind, some, few, text, lacks) =
+    let (same, left) = same_header count counted (flat_map entry_text (e ∷ es) ++ rest) behind begun.counted few (sym begun.text ∙ text) in
+    let (more, line) = first_begins e (flat_map entry_text es ++ rest) begun.right.0.number in
+    absurd (lacks more (sym left ∙ append_assoc (entry_text e) (flat_map entry_text es) rest ∙ line))
+
+-- where it is missing, it is not read as that of the line that is due
+pub lacks_number : (bytes : List ℕ) (count : ℕ) (es : List Entry) (rest : List ℕ) (place : ℕ) → BeginsWithLines bytes count es rest → length es ≡ place → HasNoFirst bytes →
+    (decimal_at 65536 rest >>= (λ number. if number.0 == place then after_text (codes " ") number.1 else None)) ≡ None
+lacks_number bytes count es rest place begun long missing =
+    let (at_first, lacks) = lacks_first bytes count es rest begun missing in
+    first_not_read place rest (sym long ∙ at_first) lacks
+
+-- where it is missing, no line is read
+pub lacks_entry : (bytes : List ℕ) (count : ℕ) (es : List Entry) (rest : List ℕ) (place : ℕ) (e : Entry) (more : List ℕ) → BeginsWithLines bytes count es rest → length es ≡ place →
+    entry_at place rest ≡ Some (e, more) → HasNoFirst bytes → ⊥
+lacks_entry bytes count es rest place e more begun long read missing =
+    let (at_first, lacks) = lacks_first bytes count es rest begun missing in
+    let (text, right) = entry_takes place rest e more read in
+    let (behind, line) = first_begins e more (right.number ∙ sym long ∙ at_first) in
+    lacks behind (text ∙ line)
+
+-- where it is missing, the first line behind the header is the least that is wrong
+pub first_line_wrong : (bytes : List ℕ) → HasNoFirst bytes → IsWrongAt bytes 1
+first_line_wrong bytes (count, rest, some, few, text, lacks) =
+    let none : HasNoEntry 0 rest = λ e more right is. (let (behind, line) = first_begins e more right.number in lacks behind (is ∙ line)) in
+    (count, [], rest, record { counted = few; few = omega arith; right = tt; text = text }, refl, inl (some, none))

@@ -3,6 +3,7 @@ use Rattle.std.proofs.Common.{◌≡◌, ℕ, ◌<◌, ◌≤◌, true, false, i
 use Rattle.std.specs.Prelude.{codes, decimal}
 use Rattle.std.specs.List.{flat_map}
 use Rattle.std.proofs.lemmas.Bool.Decides.{nat_tests}
+use Rattle.std.proofs.lemmas.Fmt.{decimal_digit}
 use Rattle.chord_base.specs.Bounds.{IsMessageWithin, IsFiringWithin, IsEndWithin, IsWhatWithin}
 use Rattle.chord_base.specs.declared.value.Object.{Object}
 use Rattle.chord_base.specs.declared.value.Value as value
@@ -351,6 +352,16 @@ line_parts e rest =
     let body = append_assoc (decimal e.body) (32 ∷ (what_text e.what ++ (10 ∷ []))) rest ∙ ap (λ b. decimal e.body ++ (32 ∷ b)) what in
     append_assoc (decimal e.number) (32 ∷ (decimal e.body ++ (32 ∷ (what_text e.what ++ (10 ∷ []))))) rest ∙ ap (λ b. decimal e.number ++ (32 ∷ b)) body
 
+-- the number 0 and a blank, written out
+zero_begins : (more : List ℕ) → decimal 0 ++ (32 ∷ more) ≡ codes "0 " ++ more
+zero_begins more = ap (λ ds. ds ++ (32 ∷ more)) (decimal_digit 0 (omega arith))
+
+-- the line of the entry with number 0 begins with its number and a blank
+pub first_begins : (e : Entry) (rest : List ℕ) → e.number ≡ 0 → (more : List ℕ) × (entry_text e ++ rest ≡ codes "0 " ++ more)
+first_begins e rest at_first =
+    let more : List ℕ = decimal e.body ++ (32 ∷ (what_text e.what ++ (10 ∷ rest))) in
+    (more, line_parts e rest ∙ ap (λ n. decimal n ++ (32 ∷ more)) at_first ∙ zero_begins more)
+
 -- the line of an entry is read
 pub entry_again : (place : ℕ) (e : Entry) (rest : List ℕ) → IsEntryAt place e → place < 65536 → entry_at place (entry_text e ++ rest) ≡ Some (e, rest)
 unfolding entry_at
@@ -413,6 +424,27 @@ entry_takes place bytes e rest read =
     ap (λ r. entry_text (record { number = number.0; body = body.0; what = what.0 }) ++ r) left in
     let at : number.0 ≡ place = grind (arith, nat_tests, here) in
     subst (λ x. (bytes ≡ entry_text x ++ rest) × IsEntryAt place x) same (whole, record { number = at; body = small; what = within; typed = typed })
+
+-- what is read of a line up to the blank behind its number, which is that of its place
+abbrev with_blank : ℕ → ℕ × List ℕ → Option (List ℕ)
+with_blank place number = if number.0 == place then after_text (codes " ") number.1 else None
+
+-- where the number 0 and a blank do not stand at the front, nothing else was read as those of the first entry
+nothing_read : (place : ℕ) (bytes : List ℕ) (o : Option (List ℕ)) → place ≡ 0 → ((more : List ℕ) → bytes ≡ codes "0 " ++ more → ⊥) →
+    (decimal_at 65536 bytes >>= with_blank place) ≡ o → o ≡ None
+nothing_read place bytes None at_first lacks read = refl
+nothing_read place bytes (Some more) at_first lacks read =
+    let (number, first, tested) = bound (decimal_at 65536 bytes) (with_blank place) more read in
+    let (here, second) = guarded (number.0 == place) (after_text (codes " ") number.1) more tested in
+    let (text, low) = number_takes 65536 bytes number.0 number.1 (omega arith) first in
+    let blank = after_takes (codes " ") number.1 more second in
+    let at : number.0 ≡ place = grind (arith, nat_tests, here) in
+    absurd (lacks more (text ∙ ap (λ b. decimal number.0 ++ b) blank ∙ ap (λ n. decimal n ++ (32 ∷ more)) (at ∙ at_first) ∙ zero_begins more))
+
+-- where the number 0 and a blank do not stand at the front, they are not read as those of the first entry
+pub first_not_read : (place : ℕ) (bytes : List ℕ) → place ≡ 0 → ((more : List ℕ) → bytes ≡ codes "0 " ++ more → ⊥) →
+    (decimal_at 65536 bytes >>= (λ number. if number.0 == place then after_text (codes " ") number.1 else None)) ≡ None
+first_not_read place bytes at_first lacks = nothing_read place bytes (decimal_at 65536 bytes >>= with_blank place) at_first lacks refl
 
 -- a header is read
 pub header_again : (count : ℕ) (rest : List ℕ) → count ≤ 65536 → header_at (header_text count ++ rest) ≡ Some (count, rest)

@@ -1,5 +1,5 @@
 -- The least line of bytes that keeps them from being the text of a journal. Line 0 is the header, and line i + 1 that of entry i.
-use Rattle.std.specs.Prelude.{◌≡◌, ◌≢◌, ℕ, zero, suc, ◌+◌, ◌<◌, ◌≤◌, ◌⊎◌, List, [], ◌∷◌, ◌++◌, length, Result, Err}
+use Rattle.std.specs.Prelude.{◌≡◌, ◌≢◌, ℕ, zero, suc, ◌+◌, ◌<◌, ◌≤◌, ◌⊎◌, List, [], ◌∷◌, ◌++◌, length, codes, Result, Err}
 use Rattle.std.specs.List.{flat_map}
 use Rattle.chord_base.specs.Bounds.{IsWhatWithin}
 use Rattle.chord_base.specs.declared.event.Entry.{Entry}
@@ -34,6 +34,11 @@ HasNoHeader bytes = (count : ℕ) (rest : List ℕ) → count ≤ 65536 → byte
 -- a header that counts at least one entry stands at the front
 abbrev pub HasEntries : List ℕ → Type 0
 HasEntries bytes = (count : ℕ) × (rest : List ℕ) × (0 < count) × (count ≤ 65536) × (bytes ≡ header_text count ++ rest)
+
+-- a header that counts an entry is followed by what does not begin with the number 0 of the first entry and a blank
+abbrev pub HasNoFirst : List ℕ → Type 0
+HasNoFirst bytes =
+    (count : ℕ) × (rest : List ℕ) × (0 < count) × (count ≤ 65536) × (bytes ≡ header_text count ++ rest) × ((more : List ℕ) → rest ≢ codes "0 " ++ more)
 
 -- the line of an entry with this number does not stand at the front
 abbrev pub HasNoEntry : ℕ → List ℕ → Type 0

@@ -1,7 +1,7 @@
 //! Reading the line of an entry.
-ghost use Rattle.std.specs.Prelude.{◌≡◌, ◌<◌, ◌==◌, if◌then◌else◌, Some, None, option_and_then, IfErr};
+ghost use Rattle.std.specs.Prelude.{◌≡◌, ◌<◌, ◌==◌, if◌then◌else◌, None, codes, option_and_then, IfErr};
 ghost use Rattle.chord_base.specs.declared.event.What.TheVariants.{Sent, Called};
-ghost use Rattle.chord_journal.specs.Reading.{ReadsAs, decimal_at, sending_at, calling_at, made_at, printed_at, ended_at, firing_at, end_at, what_at, entry_at};
+ghost use Rattle.chord_journal.specs.Reading.{ReadsAs, after_text, decimal_at, sending_at, calling_at, made_at, printed_at, ended_at, firing_at, end_at, what_at, entry_at};
 
 use crate::parts::{LineFault, after, read_number, read_object, read_text};
 use crate::values::{read_members, read_value, read_values};
@@ -12,7 +12,7 @@ use std::alloc::Global;
 #[tactic(auto, unfolding(crate::specs::Reading::entry_at))]
 pub fn read_entry(alloc: Global, place: u32, bytes: &[u8]) -> Result<(Entry, &[u8]), LineFault>
     ensures read { ReadsAs (λ x. (x.0, x.1.now)) result (entry_at place bytes.now) }
-    ensures numbered { option_and_then (λ number. if number.0 == place then Some number else None) (decimal_at 65536 bytes.now) ≡ None → IfErr result (λ fault. fault ≡ LineFault.Wrong) }
+    ensures numbered { option_and_then (λ number. if number.0 == place then after_text (codes " ") number.1 else None) (decimal_at 65536 bytes.now) ≡ None → IfErr result (λ fault. fault ≡ LineFault.Wrong) }
 {
     let (number, rest) = read_number(bytes, 65_536)?;
     if number != place {

@@ -1,10 +1,10 @@
 //! Reading the text of a journal.
-ghost use Rattle.std.specs.Prelude.{◌≡◌, ℕ, ◌≤◌, List, [], Ok, Err, IfOk, IfErr};
+ghost use Rattle.std.specs.Prelude.{◌≡◌, ◌≢◌, ℕ, ◌≤◌, List, [], Ok, Err, IfOk, IfErr};
 ghost use Rattle.chord_base.specs.Bounds.{IsJournal};
 ghost use Rattle.chord_base.specs.declared.event.Entry.{Entry as AnEntry};
 ghost use Rattle.chord_journal.specs.Text.{journal_text};
 ghost use Rattle.chord_journal.specs.Typed.{AreTyped};
-ghost use Rattle.chord_journal.specs.Wrong.{IsWrongAt, HasNoHeader, HasEntries, UnlessMemory};
+ghost use Rattle.chord_journal.specs.Wrong.{IsWrongAt, HasNoHeader, HasEntries, HasNoFirst, UnlessMemory};
 ghost use Rattle.chord_journal.specs.Reading.{ReadsAs, header_at};
 ghost use Rattle.chord_journal.specs.declared.reading.JournalFault.TheVariants as faults;
 
@@ -39,8 +39,8 @@ impl<T: Drop> From<AllocFailed<T>> for JournalFault {
 ///
 /// `At` exactly where the bytes are no text of a journal, with the least line that is wrong: line 0 is no header,
 /// line i + 1 is missing or is not the line of an entry with number i, or a byte follows the last line.
-/// `Memory` where the call ran out of memory, for which it asks only behind a header that counts an entry. Once it has
-/// asked, a wrong entry may be told as `Memory` too.
+/// `Memory` where the call ran out of memory, for which it asks only behind a header that counts an entry and the
+/// number 0 of the first one. Once it has asked, a wrong entry may be told as `Memory` too.
 pub fn read(alloc: Global, bytes: &[u8]) -> Result<Journal, JournalFault>
     // What is read has these bytes as its text.
     ensures found { IfOk result (λ journal. (bytes.now ≡ journal_text journal) × AreTyped journal) }
@@ -54,6 +54,8 @@ pub fn read(alloc: Global, bytes: &[u8]) -> Result<Journal, JournalFault>
     ensures memory { result ≡ Err JournalFault.Memory → HasEntries bytes.now }
     // The header is read without memory: where there is none, that is told.
     ensures header { HasNoHeader bytes.now → result ≡ Err (JournalFault.At 0) }
+    // The number of the first entry is read without memory: where it does not follow a header that counts it, that is told.
+    ensures first { HasNoFirst bytes.now → result ≡ Err (JournalFault.At 1) }
     // The text of the journal without an entry is read without memory.
     ensures empty { bytes.now ≡ journal_text [] → result ≡ Ok [] }
 {
@@ -65,6 +67,7 @@ fn read_lines(alloc: Global, bytes: &[u8]) -> Result<Journal, JournalFault>
     ensures found { IfOk result (λ journal. (bytes.now ≡ journal_text journal) × AreTyped journal × IsJournal journal) }
     ensures wrong { (k : ℕ) → result ≡ Err (JournalFault.At k) → IsWrongAt bytes.now k }
     ensures memory { result ≡ Err JournalFault.Memory → HasEntries bytes.now }
+    ensures first { HasNoFirst bytes.now → result ≢ Err JournalFault.Memory }
 {
     let (count, rest) = match read_header(bytes) {
         Ok(header) => header,

@@ -43,3 +43,11 @@ stack_taken newest k n old new e p =
       here = apart_others newest k (old k) e ∙ p.here ∙ ap (λ z. n ∷ z) (sym (apart_others newest k (new k) e));
       others = λ i q. ap (first_comes newest i) (p.others i q);
     }
+
+-- one message at most stood apart
+pub one_apart : (before noted : Noted) → Some before ≡ Some noted → before ≡ noted
+one_apart before noted same = cc
+
+-- where none stood apart, none is the one that did
+pub none_apart : (old : Option Noted) (noted : Noted) → old ≡ None → old ≡ Some noted → ⊥
+none_apart old noted lacks stood = (let z : None ≡ Some noted = sym lacks ∙ stood in cc)

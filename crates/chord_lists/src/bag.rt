@@ -216,6 +216,7 @@ impl Older {
         ensures apart { self.new.last ≡ Some noted }
         ensures first { self.old.last ≡ None → (self.new.objects ≡ self.old.objects) × IsOk result }
         ensures long { (before : ANoted) → self.old.last ≡ Some before → OnOk result (vec_len self.new.objects ≡ max (vec_len self.old.objects) (before.object.number + 1)) }
+        ensures class { (before : ANoted) → self.old.last ≡ Some before → OnOk result (AddsClass before.object.class (items_at self.old.objects.items before.object.number) (items_at self.new.objects.items before.object.number)) }
     {
         match mem::replace(&mut self.last, Some(noted)) {
             None => Ok(()),
@@ -262,6 +263,8 @@ impl Bag {
     }
 
     /// Notes the message of this number, which is to this method of this object. Takes no memory unless two stood apart.
+    ///
+    /// Where two stood apart, the older one goes to its stack: lists are added until its object has one, and stacks of its class where its object has none.
     pub fn note(
         &mut self,
         alloc: Global,
@@ -275,6 +278,7 @@ impl Bag {
         ensures second { self.old.older.last ≡ None → (self.new.older.objects ≡ self.old.older.objects) × IsOk result }
         ensures next { (before : ANoted) → self.old.newest ≡ Some before → self.new.older.last ≡ Some before }
         ensures long { (last before : ANoted) → self.old.newest ≡ Some last → self.old.older.last ≡ Some before → OnOk result (vec_len self.new.older.objects ≡ max (vec_len self.old.older.objects) (before.object.number + 1)) }
+        ensures class { (last before : ANoted) → self.old.newest ≡ Some last → self.old.older.last ≡ Some before → OnOk result (AddsClass before.object.class (items_at self.old.older.objects.items before.object.number) (items_at self.new.older.objects.items before.object.number)) }
     {
         let noted = Noted {
             object,

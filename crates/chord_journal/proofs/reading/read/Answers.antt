@@ -4,10 +4,10 @@ use Rattle.chord_base.specs.Bounds.{IsJournal}
 use Rattle.chord_base.specs.declared.event.Entry.{Entry}
 use Rattle.chord_journal.specs.Text.{journal_text}
 use Rattle.chord_journal.specs.Typed.{AreTyped}
-use Rattle.chord_journal.specs.Wrong.{IsWrongAt, HasNoHeader, HasEntries, UnlessMemory}
+use Rattle.chord_journal.specs.Wrong.{IsWrongAt, HasNoHeader, HasEntries, HasNoFirst, UnlessMemory}
 use Rattle.chord_journal.specs.declared.reading.JournalFault.{JournalFault}
 use Rattle.chord_journal.specs.declared.reading.JournalFault.TheVariants.{Memory, At}
-use Rattle.chord_journal.proofs.JournalTexts.{is_journal, same_journal, text_not_wrong, wrong_once, none_counted}
+use Rattle.chord_journal.proofs.JournalTexts.{is_journal, same_journal, text_not_wrong, wrong_once, none_counted, first_line_wrong}
 use Rattle.chord_journal.proofs.reading.read.Goals as goal
 
 -- what was read has these bytes as its text
@@ -43,6 +43,14 @@ header bytes answer found named memory none =
       | inr told ↦ told
     ]
 
+first : (bytes : List ℕ) (answer : Result (List Entry) JournalFault) → IfOk answer (Found bytes) → Named bytes answer → (HasNoFirst bytes → answer ≡ Err Memory → ⊥) →
+    HasNoFirst bytes → answer ≡ Err (At 1)
+first bytes answer found named held missing =
+    elim (only_wrong bytes answer found named 1 (first_line_wrong bytes missing)) [
+      | inl out ↦ absurd (held missing out)
+      | inr told ↦ told
+    ]
+
 empty : (bytes : List ℕ) (answer : Result (List Entry) JournalFault) → IfOk answer (Found bytes) → Named bytes answer → OnlyBehindHeader bytes answer →
     bytes ≡ journal_text [] → answer ≡ Ok []
 empty bytes answer found named memory text =
@@ -59,6 +67,9 @@ returns-clause-only_wrong c = only_wrong c.args.bytes.now c.read_lines.result c.
 
 pub returns-clause-header : goal.returns-clause-header
 returns-clause-header c = header c.args.bytes.now c.read_lines.result c.read_lines.ensures.found c.read_lines.ensures.wrong c.read_lines.ensures.memory
+
+pub returns-clause-first : goal.returns-clause-first
+returns-clause-first c = first c.args.bytes.now c.read_lines.result c.read_lines.ensures.found c.read_lines.ensures.wrong c.read_lines.ensures.first
 
 pub returns-clause-empty : goal.returns-clause-empty
 returns-clause-empty c = empty c.args.bytes.now c.read_lines.result c.read_lines.ensures.found c.read_lines.ensures.wrong c.read_lines.ensures.memory

@@ -1,12 +1,13 @@
 -- The lines so far are right, and then the next is right or wrong.
-use Rattle.std.proofs.Common.{◌≡◌, ◌<◌, ◌+◌, ◌∷◌, [], List, ℕ, Err, Result, refl, arith, subst, length, length-append}
+use Rattle.std.proofs.Common.{◌≡◌, ◌<◌, ◌+◌, ◌∷◌, [], List, ℕ, Err, Result, refl, sym, ◌∙◌, arith, subst, length, length-append}
 use Rattle.std.proofs.lemmas.Grind.{common_steps}
 use Rattle.chord_base.specs.declared.event.Entry.{Entry}
 use Rattle.chord_journal.specs.Wrong.{IsWrongAt}
+use Rattle.chord_journal.specs.declared.parts.LineFault.TheVariants as faults
 use Rattle.chord_journal.specs.declared.reading.JournalFault.{JournalFault}
 use Rattle.chord_journal.specs.declared.reading.JournalFault.TheVariants.{At}
 use Rattle.chord_journal.proofs.LineTexts.{header_takes}
-use Rattle.chord_journal.proofs.JournalTexts.{no_header, has_entries, wrong_line, whole_text, begins_next, is_journal, entries_typed}
+use Rattle.chord_journal.proofs.JournalTexts.{no_header, has_entries, lacks_entry, lacks_number, wrong_line, whole_text, begins_next, is_journal, entries_typed}
 use Rattle.chord_journal.proofs.reading.read_lines.Goals as goal
 
 -- a fault names one line
@@ -36,6 +37,16 @@ returns-in_err-push-in-Ok-read_entry-clause-memory c memory =
 pub returns-in-Err-Memory-read_entry-clause-memory : goal.returns-in-Err-Memory-read_entry-clause-memory
 returns-in-Err-Memory-read_entry-clause-memory c memory =
     has_entries c.args.bytes.now c.in-Ok.header.0 c.loop-place.place c.in-Ok.header.1.now c.in-Ok.ensures.read c.loop-place-test.true
+
+pub returns-in_err-push-in-Ok-read_entry-clause-first : goal.returns-in_err-push-in-Ok-read_entry-clause-first
+returns-in_err-push-in-Ok-read_entry-clause-first c missing memory =
+    lacks_entry _ _ _ _ c.loop-place.place c.in-Ok-read_entry.entry c.in-Ok-read_entry.more.now c.loop-place.invariant.begun c.loop-place.invariant.long c.in-Ok-read_entry.ensures.read missing
+
+pub returns-in-Err-Memory-read_entry-clause-first : goal.returns-in-Err-Memory-read_entry-clause-first
+returns-in-Err-Memory-read_entry-clause-first c missing memory =
+    let unread = lacks_number _ _ _ _ c.loop-place.place c.loop-place.invariant.begun c.loop-place.invariant.long missing in
+    let other : faults.Memory ≡ faults.Wrong = sym c.in-Err-Memory-read_entry.field-0-is ∙ c.in-Err-Memory-read_entry.ensures.numbered unread in
+    cc
 
 pub loop-place-preserved : goal.loop-place-preserved
 loop-place-preserved c =
