@@ -426,15 +426,15 @@ entry_takes place bytes e rest read =
     subst (λ x. (bytes ≡ entry_text x ++ rest) × IsEntryAt place x) same (whole, record { number = at; body = small; what = within; typed = typed })
 
 -- what is read of a line up to the blank behind its number, which is that of its place
-abbrev with_blank : ℕ → ℕ × List ℕ → Option (List ℕ)
-with_blank place number = if number.0 == place then after_text (codes " ") number.1 else None
+abbrev numbered_front : ℕ → ℕ × List ℕ → Option (List ℕ)
+numbered_front place number = if number.0 == place then after_text (codes " ") number.1 else None
 
 -- where the number 0 and a blank do not stand at the front, nothing else was read as those of the first entry
 nothing_read : (place : ℕ) (bytes : List ℕ) (o : Option (List ℕ)) → place ≡ 0 → ((more : List ℕ) → bytes ≡ codes "0 " ++ more → ⊥) →
-    (decimal_at 65536 bytes >>= with_blank place) ≡ o → o ≡ None
+    (decimal_at 65536 bytes >>= numbered_front place) ≡ o → o ≡ None
 nothing_read place bytes None at_first lacks read = refl
 nothing_read place bytes (Some more) at_first lacks read =
-    let (number, first, tested) = bound (decimal_at 65536 bytes) (with_blank place) more read in
+    let (number, first, tested) = bound (decimal_at 65536 bytes) (numbered_front place) more read in
     let (here, second) = guarded (number.0 == place) (after_text (codes " ") number.1) more tested in
     let (text, low) = number_takes 65536 bytes number.0 number.1 (omega arith) first in
     let blank = after_takes (codes " ") number.1 more second in
@@ -444,7 +444,7 @@ nothing_read place bytes (Some more) at_first lacks read =
 -- where the number 0 and a blank do not stand at the front, they are not read as those of the first entry
 pub first_not_read : (place : ℕ) (bytes : List ℕ) → place ≡ 0 → ((more : List ℕ) → bytes ≡ codes "0 " ++ more → ⊥) →
     (decimal_at 65536 bytes >>= (λ number. if number.0 == place then after_text (codes " ") number.1 else None)) ≡ None
-first_not_read place bytes at_first lacks = nothing_read place bytes (decimal_at 65536 bytes >>= with_blank place) at_first lacks refl
+first_not_read place bytes at_first lacks = nothing_read place bytes (decimal_at 65536 bytes >>= numbered_front place) at_first lacks refl
 
 -- a header is read
 pub header_again : (count : ℕ) (rest : List ℕ) → count ≤ 65536 → header_at (header_text count ++ rest) ≡ Some (count, rest)
