@@ -2,20 +2,28 @@
 //! as they are.
 //! Stands on: chord_run, chord_io. Used by: nobody.
 //! Promise: where the words cannot be had the number that it ends with is 7 if there is no memory for them, and else 2, since words
-//! which are not text are no words of the command line (`without_words`); else it is the status of the report (`after`). What a run
-//! writes is what `chord` promises. That `main` calls these, and with the words as they are, no clause says.
+//! which are not text are no words of the command line (`without_words`); else it is the status of a report of which the headline of
+//! `chord` holds, for these words (`answer`). That `main` calls these, and with the words of the command line, no clause says.
 //! Not here: any other decision.
 #![tactic(auto)]
 
-ghost use Rattle.std.specs.Prelude.{◌≡◌};
+ghost use Rattle.std.specs.Prelude.{◌≡◌, ◌⊎◌};
 ghost use Rattle.std.specs.Process.{exit_status};
+ghost use Rattle.chord_run.specs.Answers.{Answers, IsSilence, IsSilent};
+ghost use Rattle.chord_run.specs.Command.{AreAccepted, Requests, argument_bytes};
+ghost use Rattle.chord_run.specs.Due.{source_contents};
+ghost use Rattle.chord_run.specs.Rows.{NoneFailed, RefusesOthers, RunsAccepted};
+ghost use Rattle.chord_run.specs.declared.command.Request as asked;
+ghost use Rattle.chord_run.specs.declared.report.Report as reported;
 
-use chord_io::{StdSink, StdSource};
+use chord_io::{Sink, Source, StdSink, StdSource};
 use chord_run::{Gate, Report, chord};
 use std::alloc::Global;
 use std::io::ErrorKind;
 use std::process::ExitCode;
 use std::rt::Env;
+use std::sync::Wait;
+use std::thread::Threads;
 use std::{env, io, mem};
 
 /// The gate that does nothing.
@@ -51,6 +59,32 @@ fn after(report: Report) -> ExitCode
     ExitCode::from(status)
 }
 
+/// What these words ask for, as `chord` answers them; the process ends with the status of its report.
+fn answer<R: Threads + Wait + Sync, S: Source, K: Sink>(
+    rt: &R,
+    alloc: Global,
+    words: &[String],
+    source: &mut S,
+    sink: &mut K,
+) -> ExitCode
+    // The headline of `chord`, for these words.
+    ensures headline { (report : reported.Report) × (exit_status result ≡ report.status)
+        × (IsSilence report (K.taken sink.old) (K.taken sink.new) ⊎ Answers (argument_bytes words.now) (S.left source.old) report (K.taken sink.old) (K.taken sink.new))
+        × (IsSilent report.status → IsSilence report (K.taken sink.old) (K.taken sink.new)) }
+    // Words are told to be wrong exactly where they are, unless memory runs out.
+    ensures words { exit_status result ≡ 2 → AreAccepted (argument_bytes words.now) → ⊥ }
+    ensures words_exactly { (exit_status result ≡ 2) ⊎ (exit_status result ≡ 7) ⊎ AreAccepted (argument_bytes words.now) }
+    // Where the contents of the source are specified and no I/O call failed, a source has its answer, unless memory runs out.
+    ensures accepted { (request : asked.Request) → Requests (argument_bytes words.now) request
+        → NoneFailed (S.faults source.old) (S.faults source.new) (K.faults sink.old) (K.faults sink.new)
+        → RunsAccepted request.mode (source_contents request (S.left source.old)) (exit_status result) }
+    ensures not_accepted { (request : asked.Request) → Requests (argument_bytes words.now) request
+        → NoneFailed (S.faults source.old) (S.faults source.new) (K.faults sink.old) (K.faults sink.new)
+        → RefusesOthers (source_contents request (S.left source.old)) (exit_status result) }
+{
+    after(chord(rt, alloc, words, source, sink, &Open))
+}
+
 fn main(rt: HostRuntime) -> ExitCode {
     let words = match words(&rt) {
         Ok(words) => words,
@@ -58,5 +92,5 @@ fn main(rt: HostRuntime) -> ExitCode {
     };
     let mut source = StdSource::new(rt.stdin());
     let mut sink = StdSink::new(rt.stdout());
-    after(chord(&rt, rt.alloc(), &words, &mut source, &mut sink, &Open))
+    answer(&rt, rt.alloc(), &words, &mut source, &mut sink)
 }
